@@ -1,0 +1,52 @@
+-- `forms::number::get_u32` meets its contract. Assumes nothing.
+use mathlib.Core.Path.{sym}
+use Rattle.forms.specs.NumberLaws.{bigEndian-past}
+use borrow.Author.Needs.{needs}
+use Rattle.forms.proofs.number.get_u32.Statement.{statement}
+use Rattle.forms.proofs.number.get_u32.Tie as tie
+
+returns : tie.Need-returns
+returns c = sym (bigEndian-past 4 (c .before .before .args .s .now) (c .before .before .args .at) (c .if1 .taken))
+
+pub get-u32-spec : {M : Type 1} → statement M
+get-u32-spec =
+    tie.close
+    (tie.spec
+    returns
+    (λ c. search needs)
+    (λ c. search needs)
+    (λ c κs. search needs)
+    (λ c. search needs)
+    (λ c. search needs)
+    (λ c κs. search needs)
+    (λ c κs. search needs)
+    (λ c. search needs)
+    (λ c. search needs)
+    (λ c. search needs)
+    (λ c κs. search needs)
+    (λ c κs. search needs)
+    (λ c. search needs)
+    (λ c. search needs)
+    (λ c. search needs)
+    (λ c κs. search needs)
+    (λ c κs. search needs)
+    (λ c. search needs)
+    (λ c. search needs)
+    (λ c. search needs)
+    (λ c κs. search needs)
+    (λ c. search needs)
+    (λ c. search needs)
+    (λ c. search needs)
+    (λ c κs. search needs)
+    (λ c. search needs)
+    (λ c. search needs)
+    (λ c. search needs)
+    (λ c. search needs)
+    (λ c κs. search needs)
+    (λ c. search needs)
+    (λ c. search needs)
+    (λ c. search needs)
+    (λ c. search needs)
+    (λ c κs. search needs)
+    (λ c. search needs)
+    (λ c. search needs))

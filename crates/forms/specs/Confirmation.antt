@@ -1,0 +1,13 @@
+-- The confirmation's byte form: document 01, "Confirmation: box number, value, clock reading", 12 bytes. Assumes nothing.
+use Prim.Native.Nat.{ℕ, _+_}
+use mathlib.Core.List.{List, _++_}
+use Rattle.forms.specs.Number.{be32, digits}
+use Rattle.forms.specs.Terms.{counterId, globalClock}
+pub use Rattle.forms.specs.declared.confirmation.Confirmation.{Confirmation}
+
+-- the confirmation at place k
+unfoldable pub confirmationAt : List ℕ → ℕ → Confirmation
+confirmationAt s k = record { id = counterId (be32 s k); value = be32 s (k + 4); reading = globalClock (be32 s (k + 8)) }
+
+unfoldable pub confirmationBytes : Confirmation → List ℕ
+confirmationBytes c = digits 4 (c .id .0) ++ digits 4 (c .value) ++ digits 4 (c .reading .0)

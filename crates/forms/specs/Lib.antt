@@ -1,0 +1,16 @@
+pub mod Bytes
+pub mod BytesLaws
+pub mod Certificate
+pub mod Chain
+pub mod ChainLaws
+pub mod Checks
+pub mod ChecksLaws
+pub mod Confirmation
+pub mod Entry
+pub mod Event
+pub mod Limits
+pub mod Number
+pub mod NumberLaws
+pub mod Proof
+pub mod ProofLaws
+pub mod Terms

@@ -1,0 +1,22 @@
+-- Big-endian numbers at a place of some bytes, at any width: document 01, "Fields are big-endian". Assumes nothing.
+use Prim.Native.Nat.{ℕ, zero, suc, _+_, _*_, _/_, _%_, _^_}
+use mathlib.Core.List.{List, [], _∷_}
+use lib.ListN.{getD}
+
+-- the number that the w bytes from place k on hold, the highest first; a byte that is not there counts as 0
+abbrev pub bigEndian : ℕ → List ℕ → ℕ → ℕ
+bigEndian zero s k = 0
+bigEndian (suc zero) s k = getD s k 0
+bigEndian (suc (suc w)) s k = bigEndian (suc w) s k * 256 + getD s (k + suc w) 0
+
+-- the w bytes that hold x, the highest first
+abbrev pub digits : ℕ → ℕ → List ℕ
+digits zero x = []
+digits (suc zero) x = x % 256 ∷ []
+digits (suc (suc w)) x = x / 256 ^ suc w % 256 ∷ digits (suc w) x
+
+abbrev pub be16 : List ℕ → ℕ → ℕ
+be16 s k = bigEndian 2 s k
+
+abbrev pub be32 : List ℕ → ℕ → ℕ
+be32 s k = bigEndian 4 s k

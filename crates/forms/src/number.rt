@@ -1,0 +1,59 @@
+// Big-endian numbers of 16 and 32 bits at a place of a slice. A byte that is not there counts as 0; a number that does not fit
+// whole is not stored.
+use crate::bytes::byte_at;
+use crate::bytes::wide;
+ghost use mathlib.Core.Path.{_≡_};
+ghost use Rattle.forms.specs.Bytes.{overwrite};
+ghost use Rattle.forms.specs.Number.{be16, be32, digits};
+
+pub fn get_u16(s: &[u8], at: usize) -> u32
+    ensures { λ r. ⌜ r ≡ be16 (now (s .entry)) at ⌝ }
+{
+    if s.len() <= at {
+        return 0;
+    }
+    wide(s[at]) * 256 + wide(byte_at(s, at + 1))
+}
+
+pub fn get_u32(s: &[u8], at: usize) -> u32
+    ensures { λ r. ⌜ r ≡ be32 (now (s .entry)) at ⌝ }
+{
+    if s.len() <= at {
+        return 0;
+    }
+    if s.len() - at < 4 {
+        return ((wide(s[at]) * 256 + wide(byte_at(s, at + 1))) * 256 + wide(byte_at(s, at + 2)))
+            * 256
+            + wide(byte_at(s, at + 3));
+    }
+    ((wide(s[at]) * 256 + wide(s[at + 1])) * 256 + wide(s[at + 2])) * 256 + wide(s[at + 3])
+}
+
+// Stores the lower 16 bits of x.
+pub fn put_u16(s: &mut [u8], at: usize, x: u32)
+    ensures { λ _. ⌜ now (s .exit) ≡ overwrite (now (s .entry)) at (digits 2 x) ⌝ }
+{
+    if s.len() < at {
+        return;
+    }
+    if s.len() - at < 2 {
+        return;
+    }
+    s[at] = (x / 256 % 256) as u8;
+    s[at + 1] = (x % 256) as u8;
+}
+
+pub fn put_u32(s: &mut [u8], at: usize, x: u32)
+    ensures { λ _. ⌜ now (s .exit) ≡ overwrite (now (s .entry)) at (digits 4 x) ⌝ }
+{
+    if s.len() < at {
+        return;
+    }
+    if s.len() - at < 4 {
+        return;
+    }
+    s[at] = (x / 16777216 % 256) as u8;
+    s[at + 1] = (x / 65536 % 256) as u8;
+    s[at + 2] = (x / 256 % 256) as u8;
+    s[at + 3] = (x % 256) as u8;
+}
