@@ -1,12 +1,12 @@
 -- Laws of parts of bytes, of storing over them and of comparing them. Assumes nothing.
 use mathlib.Core.Path.{_≡_, refl, sym, ap, ap₂, _∙_, subst}
 use Prim.Native.Nat.{ℕ, zero, suc, _+_, _≤_, _<_, zero-le}
-use native.Mathlib.Nat.{add-zero, add-suc, suc-add, add-assoc, le-of-suc-le-suc, not-suc-le-zero}
+use native.Mathlib.Nat.{zero-add, add-zero, add-suc, suc-add, add-assoc, le-of-suc-le-suc, not-suc-le-zero}
 use native.Mathlib.Omega.{arith}
 use mathlib.Core.Bool.{Bool, true, false, cond, _&&_, false≢true}
 use mathlib.Core.List.{List, [], _∷_, _++_, append-assoc}
 use lib.ListN.{length, replicate, getD, take, drop, length-append, length-take, length-drop, List·getD-eq-default}
-use lib.Seq.{sets, sets-eq, paste, take-length, drop-cons, take-at, drop-at, length-take-le, drop-append-add, drop-drop, take-append-le, drop-append-le}
+use lib.Seq.{getD-drop, sets, sets-eq, paste, take-length, drop-cons, take-at, drop-at, length-take-le, drop-append-add, drop-drop, take-append-le, drop-append-le}
 use mathlib.Core.Logic.{_↔_}
 use lib.Dec.{leb, eqb}
 use borrow.Author.Tests.{le-leb, lt-leb, eqb-true, eq-eqb, leb-true, leb-false}
@@ -43,6 +43,22 @@ window-snoc s k zero = ap (λ (j : ℕ). getD s j 0 ∷ []) (sym (add-zero k))
 window-snoc s k (suc n) =
     ap (λ (l : List ℕ). getD s k 0 ∷ l)
     (window-snoc s (suc k) n ∙ ap (λ (j : ℕ). window s (suc k) n ++ (getD s j 0 ∷ [])) (suc-add k n ∙ sym (add-suc k n)))
+
+-- a window of what is left
+pub window-drop : (s : List ℕ) (j k n : ℕ) → window (drop j s) k n ≡ window s (j + k) n
+unfolding window
+window-drop s j k zero = refl
+window-drop s j k (suc n) =
+    ap₂ _∷_ (getD-drop j s k 0) (window-drop s j (suc k) n ∙ ap (λ (i : ℕ). window s i n) (add-suc j k))
+
+-- two windows side by side
+pub window-append : (s : List ℕ) (k m n : ℕ) → window s k (m + n) ≡ window s k m ++ window s (k + m) n
+unfolding window
+window-append s k zero n = ap₂ (λ (i j : ℕ). window s i j) (sym (add-zero k)) (zero-add n)
+window-append s k (suc m) n =
+    ap (window s k) (suc-add m n)
+    ∙ ap (λ (l : List ℕ). getD s k 0 ∷ l)
+    (window-append s (suc k) m n ∙ ap (λ (i : ℕ). window s (suc k) m ++ window s i n) (suc-add k m ∙ sym (add-suc k m)))
 
 -- past the end there are zeros
 pub window-past : (s : List ℕ) (k n : ℕ) → length s ≤ k → window s k n ≡ replicate {A = ℕ} n 0

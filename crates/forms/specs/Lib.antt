@@ -8,9 +8,12 @@ pub mod ChecksLaws
 pub mod Confirmation
 pub mod Entry
 pub mod Event
+pub mod Image
 pub mod Limits
 pub mod Number
 pub mod NumberLaws
+pub mod PartsLaws
 pub mod Proof
 pub mod ProofLaws
+pub mod RoundTrip
 pub mod Terms

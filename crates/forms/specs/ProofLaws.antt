@@ -3,9 +3,9 @@
 use mathlib.Core.Path.{_≡_, refl, sym, ap, ap₂, _∙_, subst}
 use Prim.Native.Nat.{ℕ, _+_, _*_, _≤_, _<_}
 use native.Mathlib.Omega.{arith}
-use mathlib.Core.Bool.{Bool, true, false, not, _&&_, _||_, true≢false}
+use mathlib.Core.Bool.{Bool, true, false, not, cond, _&&_, _||_, true≢false, false≢true}
 use lib.Dec.{eqb, ltb, lit≤}
-use borrow.Author.Tests.{ltb-false}
+use borrow.Author.Tests.{le-ltb, ltb-false, eq-eqb, eqb-true, eqb-false, not-false}
 use mathlib.Core.List.{List, [], _∷_, _++_}
 use lib.ListN.{length, drop, length-append}
 use native.Mathlib.Nat.{zero-add}
@@ -15,7 +15,8 @@ use Rattle.forms.specs.Confirmation.{Confirmation, confirmationBytes}
 use Rattle.forms.specs.Certificate.{Certificate, certificateBytes}
 use Rattle.forms.specs.Limits.{nonceLen, confirmationLen, certificateLen, entryLen, maxEntries, proofHeaderLen, maxProofLen}
 use Rattle.forms.specs.Proof.{Kind, Proof, nothingRaised, miscounted, confirmationOffset, certificateOffset, logOffset, proofLen}
-use Rattle.forms.specs.Proof.{headerOf, headerBytes, fieldsOf, encode}
+use Rattle.forms.specs.Number.{be32}
+use Rattle.forms.specs.Proof.{Parsed, knownForm, shapeAt, laidOut, parsed, readNumber, headerOf, headerBytes, fieldsOf, encode}
 
 -- ---- limits
 
@@ -23,9 +24,19 @@ or-false-left : (a b : Bool) → (a || b) ≡ false → a ≡ false
 or-false-left true b e = e
 or-false-left false b e = refl
 
+or-false-right : (a b : Bool) → (a || b) ≡ false → b ≡ false
+or-false-right true b e = absurd (true≢false e)
+or-false-right false b e = e
+
 -- a count within the limits
 pub count-bound : (p : Proof) → miscounted p ≡ false → p .count ≤ maxEntries
 count-bound p e = ltb-false maxEntries (p .count) (or-false-left (ltb maxEntries (p .count)) (nothingRaised (p .kind) (p .count)) e)
+
+-- an increment's proof has an entry
+pub count-some : (count : ℕ) → miscounted (record { kind = Kind.Increment; count = count }) ≡ false → 1 ≤ count
+count-some count e =
+    let some : count ≡ 0 → ⊥ = eqb-false count 0 (or-false-right (ltb maxEntries count) (eqb count 0) e) in
+    omega arith
 
 pub log-bound : (kind : Kind) → logOffset kind ≤ 60
 log-bound Kind.Read = lit≤ tt
@@ -38,6 +49,88 @@ certificate-bound Kind.Increment = lit≤ tt
 -- a proof's length is within the longest proof's
 pub proofLen-bound : (p : Proof) → miscounted p ≡ false → proofLen p ≤ maxProofLen
 proofLen-bound p e = omega (arith, count-bound p e, log-bound (p .kind))
+
+-- ---- reading
+
+pub both : (a b : Bool) → (a && b) ≡ true → (a ≡ true) × (b ≡ true)
+both true b e = (refl, e)
+both false b e = absurd (false≢true e)
+
+-- the bytes lent, the whole length and the offsets, where they are those of the kind and the count
+pub record LaidOut (s : List ℕ) (p : Proof) : Type 0 where
+  pub lent : length s ≡ proofLen p
+  pub whole : be32 s 4 ≡ proofLen p
+  pub confirmation : be32 s 8 ≡ confirmationOffset
+  pub certificate : be32 s 12 ≡ certificateOffset (p .kind)
+  pub log : be32 s 16 ≡ logOffset (p .kind)
+
+pub laid-out-yes : (s : List ℕ) (p : Proof) → LaidOut s p → laidOut s p ≡ true
+laid-out-yes s p l =
+    simp (eq-eqb _ _ (l .lent), eq-eqb _ _ (l .whole), eq-eqb _ _ (l .confirmation), eq-eqb _ _ (l .certificate), eq-eqb _ _ (l .log))
+
+pub laid-out-parts : (s : List ℕ) (p : Proof) → laidOut s p ≡ true → LaidOut s p
+laid-out-parts s p e =
+    let first = both _ _ e in
+    let second = both _ _ (first .1) in
+    let third = both _ _ (second .1) in
+    let fourth = both _ _ (third .1) in
+    record {
+      lent = eqb-true _ _ (first .0);
+      whole = eqb-true _ _ (second .0);
+      confirmation = eqb-true _ _ (third .0);
+      certificate = eqb-true _ _ (fourth .0);
+      log = eqb-true _ _ (fourth .1);
+    }
+
+-- bytes that pass checks 2 to 5
+pub record Reads (s : List ℕ) : Type 0 where
+  pub header : proofHeaderLen ≤ length s
+  pub known : knownForm s ≡ true
+  pub counted : miscounted (shapeAt s) ≡ false
+  pub laid : LaidOut s (shapeAt s)
+
+-- they read as the proof that the header gives
+pub reads-parsed : (s : List ℕ) → Reads s → parsed s ≡ Parsed.Proof (shapeAt s)
+unfolding parsed
+reads-parsed s r =
+    simp (le-ltb (length s) proofHeaderLen (r .header), ap not (r .known), r .counted, ap not (laid-out-yes s (shapeAt s) (r .laid)))
+
+passed : (a b c d : Bool) (p : Proof)
+    → readNumber (cond a Parsed.TooShort (cond b Parsed.UnknownForm (cond c Parsed.BadCount (cond d Parsed.BadLayout (Parsed.Proof p))))) ≡ 0
+    → (a ≡ false) × (b ≡ false) × (c ≡ false) × (d ≡ false)
+passed true b c d p e = let no : ⊥ = omega arith in absurd no
+passed false true c d p e = let no : ⊥ = omega arith in absurd no
+passed false false true d p e = let no : ⊥ = omega arith in absurd no
+passed false false false true p e = let no : ⊥ = omega arith in absurd no
+passed false false false false p e = (refl, refl, refl, refl)
+
+-- number 0 means that every check has passed
+pub parsed-reads : (s : List ℕ) → readNumber (parsed s) ≡ 0 → Reads s
+unfolding parsed
+parsed-reads s e =
+    let rows = passed (ltb (length s) proofHeaderLen) (not (knownForm s)) (miscounted (shapeAt s)) (not (laidOut s (shapeAt s))) (shapeAt s) e in
+    record {
+      header = ltb-false _ _ (rows .0);
+      known = not-false _ (rows .1);
+      counted = rows .2;
+      laid = laid-out-parts s (shapeAt s) (not-false _ (rows .3));
+    }
+
+shape-of : Parsed → Proof → Proof
+shape-of Parsed.TooShort p = p
+shape-of Parsed.UnknownForm p = p
+shape-of Parsed.BadCount p = p
+shape-of Parsed.BadLayout p = p
+shape-of (Parsed.Proof q) p = q
+
+-- bytes that read as a proof read as the one that their header gives
+pub parsed-shape : (s : List ℕ) (p : Proof) → parsed s ≡ Parsed.Proof p → p ≡ shapeAt s
+unfolding shape-of
+parsed-shape s p e = ap (λ (r : Parsed). shape-of r p) (sym e ∙ reads-parsed s (parsed-reads s (ap readNumber e)))
+
+-- and its count is within the limits
+pub parsed-counted : (s : List ℕ) (p : Proof) → parsed s ≡ Parsed.Proof p → miscounted p ≡ false
+parsed-counted s p e = ap miscounted (parsed-shape s p e) ∙ parsed-reads s (ap readNumber e) .counted
 
 -- ---- the parts stored one behind the other
 

@@ -6,6 +6,7 @@ pub mod certificate;
 pub mod confirmation;
 pub mod entry;
 pub mod event;
+pub mod image;
 pub mod nonce;
 pub mod number;
 pub mod proof;

@@ -1,0 +1,169 @@
+-- The desk's answer to a validity proof: document 01, "The desk". One row of `checks` for each row of its table, in its order; where a
+-- number is given for two things, one row for each. Assumes nothing.
+use Prim.Native.Nat.{ℕ, _+_, _-_, _*_}
+use mathlib.Core.Bool.{Bool, true, false, not, cond, _&&_, _||_}
+use mathlib.Core.List.{List, [], _∷_}
+use lib.Dec.{eqb, leb, ltb}
+use lib.ListN.{length, getD}
+use Rattle.forms.specs.Bytes.{same, window}
+use Rattle.forms.specs.Limits.{nonceLen, entryLen, proofHeaderLen}
+use Rattle.forms.specs.Terms.{sameId}
+use Rattle.forms.specs.declared.terms.CounterId.{CounterId}
+use Rattle.forms.specs.declared.terms.GlobalClock.{GlobalClock}
+use Rattle.forms.specs.declared.confirmation.Confirmation.{Confirmation}
+use Rattle.forms.specs.declared.certificate.Certificate.{Certificate}
+use Rattle.forms.specs.declared.entry.Entry.{Entry}
+use Rattle.forms.specs.declared.proof.Kind.{Kind}
+use Rattle.forms.specs.declared.proof.Proof.{Proof}
+use Rattle.forms.specs.Checks.{Row, _gives_, firstOf}
+use Rattle.forms.specs.Confirmation.{confirmationAt}
+use Rattle.forms.specs.Certificate.{certificateAt}
+use Rattle.forms.specs.Entry.{entryAt, entriesAt}
+use Rattle.forms.specs.Chain.{follows, valueAfter}
+use Rattle.forms.specs.Proof.{knownForm, shapeAt, miscounted, laidOut, confirmationOffset, certificateOffset, logOffset}
+use Rattle.desk.specs.Answer.{Answer}
+use Rattle.desk.specs.Lowest.{lowest}
+
+-- ---- the parts of a proof
+
+-- the confirmation, whose value and reading are (v, g)
+abbrev pub confirmation : List ℕ → Confirmation
+confirmation s = confirmationAt s confirmationOffset
+
+-- the clock certificate of kind 1
+abbrev pub certificate : List ℕ → Certificate
+certificate s = certificateAt s (certificateOffset Kind.Read)
+
+-- "Entry i, from 1", of a log that begins at an offset
+abbrev pub entry : List ℕ → ℕ → ℕ → Entry
+entry s log i = entryAt s (log + entryLen * (i - 1))
+
+-- in kind 1 the one, in kind 2 the other
+abbrev pub byKind : {A : Type 0} → Kind → A → A → A
+byKind Kind.Read read increment = read
+byKind Kind.Increment read increment = increment
+
+-- ---- verdicts: "confirmation; clock certificate in kind 1; then for each entry the module's and the owner's"
+
+-- how many stand before those of the entries
+abbrev pub verdictsBefore : Kind → ℕ
+verdictsBefore Kind.Read = 2
+verdictsBefore Kind.Increment = 1
+
+-- the length of the verdict list
+abbrev pub verdictCount : Proof → ℕ
+verdictCount p = verdictsBefore (p .kind) + 2 * p .count
+
+-- every verdict is 0 or 1
+unfoldable pub zeroOrOne : List ℕ → Bool
+zeroOrOne [] = true
+zeroOrOne (b ∷ rest) = leb b 1 && zeroOrOne rest
+
+-- "0 no and 1 yes"
+abbrev pub isNo : ℕ → Bool
+isNo verdict = eqb verdict 0
+
+-- the module's verdict on entry i, and the owner's
+abbrev pub moduleVerdict : List ℕ → ℕ → ℕ → ℕ
+moduleVerdict verdicts before i = getD verdicts (before + 2 * (i - 1)) 0
+
+abbrev pub ownerVerdict : List ℕ → ℕ → ℕ → ℕ
+ownerVerdict verdicts before i = getD verdicts (before + 2 * (i - 1) + 1) 0
+
+-- ---- what the checks test
+
+-- 1: wanted counter 0, or wanted nonce not 20 bytes
+unfoldable pub badWanted : CounterId → List ℕ → Bool
+badWanted id nonce = eqb (id .0) 0 || not (eqb (length nonce) nonceLen)
+
+-- 6: verdict list of another length, or a byte over 1
+unfoldable pub badVerdicts : Proof → List ℕ → Bool
+badVerdicts p verdicts = not (eqb (length verdicts) (verdictCount p)) || not (zeroOrOne verdicts)
+
+-- 7: confirmation of another counter, or v > g
+unfoldable pub badConfirmation : Confirmation → CounterId → Bool
+badConfirmation c id = not (sameId (c .id) id) || ltb (c .reading .0) (c .value)
+
+-- 9: the module's verdict on the clock certificate is no
+unfoldable pub certificateDenied : Kind → List ℕ → Bool
+certificateDenied kind verdicts = byKind kind (isNo (getD verdicts 1 0)) false
+
+-- 9: the module's verdict on entry i is no
+unfoldable pub moduleDenied : List ℕ → ℕ → ℕ → Bool
+moduleDenied verdicts before i = isNo (moduleVerdict verdicts before i)
+
+-- 10: kind 1: the certificate's nonce is not the wanted one; kind 2: the last entry has another counter or nonce
+unfoldable pub closesElsewhere : Proof → List ℕ → CounterId → List ℕ → Bool
+closesElsewhere p s id nonce =
+    let last : Entry = entry s (logOffset (p .kind)) (p .count) in
+    byKind (p .kind)
+    (not (same (certificate s .nonce) (window nonce 0 nonceLen)))
+    (not (sameId (last .id) id) || not (same (last .nonce) (window nonce 0 nonceLen)))
+
+-- 11: entry i has another t than g + i, in whole numbers
+unfoldable pub wrongReading : List ℕ → ℕ → GlobalClock → ℕ → Bool
+wrongReading s log start i = not (eqb (entry s log i .reading .0) (start .0 + i))
+
+-- 11: the certificate's reading is not g + n
+unfoldable pub wrongClosing : Proof → List ℕ → Bool
+wrongClosing p s = byKind (p .kind) (not (eqb (certificate s .reading .0) (confirmation s .reading .0 + p .count))) false
+
+-- 12: entry i is the wanted counter's and the owner's verdict on it is no
+unfoldable pub ownerDenied : List ℕ → ℕ → List ℕ → ℕ → CounterId → ℕ → Bool
+ownerDenied s log verdicts before id i = sameId (entry s log i .id) id && isNo (ownerVerdict verdicts before i)
+
+-- the running value before entry i
+abbrev pub valueBefore : List ℕ → ℕ → CounterId → ℕ → ℕ → ℕ
+valueBefore s log id value i = valueAfter id value (entriesAt s log (i - 1))
+
+-- 13: entry i is the wanted counter's and states another value before than the running value
+unfoldable pub breaksChain : List ℕ → ℕ → CounterId → ℕ → ℕ → Bool
+breaksChain s log id value i = not (follows id (valueBefore s log id value i) (entry s log i))
+
+-- T: the certificate's reading in kind 1, the last t in kind 2
+unfoldable pub closing : Proof → List ℕ → GlobalClock
+closing p s = byKind (p .kind) (certificate s .reading) (entry s (logOffset (p .kind)) (p .count) .reading)
+
+-- ---- the table
+
+-- a check over every entry, lowest entry first, with its place
+abbrev pub lowestEntry : ℕ → ℕ → Row Answer
+lowestEntry number place = not (eqb place 0) gives Answer.Refused number place
+
+-- checks 6 to 13, of bytes that read as a proof
+abbrev pub laterChecks : Proof → List ℕ → List ℕ → CounterId → List ℕ → List (Row Answer)
+laterChecks p s verdicts id nonce =
+    let n : ℕ = p .count in
+    let log : ℕ = logOffset (p .kind) in
+    let before : ℕ = verdictsBefore (p .kind) in
+    (badVerdicts p verdicts gives Answer.Refused 6 0)
+    ∷ (badConfirmation (confirmation s) id gives Answer.Refused 7 0)
+    ∷ (isNo (getD verdicts 0 0) gives Answer.Refused 8 0)
+    ∷ (certificateDenied (p .kind) verdicts gives Answer.Refused 9 0)
+    ∷ lowestEntry 9 (lowest (moduleDenied verdicts before) n)
+    ∷ (closesElsewhere p s id nonce gives Answer.Refused 10 0)
+    ∷ lowestEntry 11 (lowest (wrongReading s log (confirmation s .reading)) n)
+    ∷ (wrongClosing p s gives Answer.Refused 11 (n + 1))
+    ∷ lowestEntry 12 (lowest (ownerDenied s log verdicts before id) n)
+    ∷ lowestEntry 13 (lowest (breaksChain s log id (confirmation s .value)) n)
+    ∷ []
+
+-- "The final running value is the answer; place is 0"
+abbrev pub accepted : Proof → List ℕ → CounterId → Answer
+accepted p s id = Answer.Accepted (valueAfter id (confirmation s .value) (entriesAt s (logOffset (p .kind)) (p .count))) (closing p s)
+
+-- the answer to bytes that read as a proof
+unfoldable pub judged : Proof → List ℕ → List ℕ → CounterId → List ℕ → Answer
+judged p s verdicts id nonce = firstOf (laterChecks p s verdicts id nonce) (accepted p s id)
+
+-- the desk's answer to proof, verdicts, wanted counter and wanted nonce
+unfoldable pub verified : List ℕ → List ℕ → CounterId → List ℕ → Answer
+verified s verdicts id nonce =
+    firstOf
+    ((badWanted id nonce gives Answer.Refused 1 0)
+    ∷ (ltb (length s) proofHeaderLen gives Answer.Refused 2 0)
+    ∷ (not (knownForm s) gives Answer.Refused 3 0)
+    ∷ (miscounted (shapeAt s) gives Answer.Refused 4 0)
+    ∷ (not (laidOut s (shapeAt s)) gives Answer.Refused 5 0)
+    ∷ laterChecks (shapeAt s) s verdicts id nonce)
+    (accepted (shapeAt s) s id)

@@ -1,0 +1,74 @@
+// The verdict list: one byte each, 0 no and 1 yes, for the confirmation, in a read's proof the clock certificate, and then for each entry
+// the module's and the owner's.
+use forms::bytes::byte_at;
+use forms::proof::Kind;
+use forms::proof::Proof;
+ghost use mathlib.Core.Path.{_≡_};
+ghost use mathlib.Core.Bool.{false};
+ghost use Prim.Native.Nat.{_≤_};
+ghost use Rattle.forms.specs.Limits.{maxEntries};
+ghost use Rattle.forms.specs.Proof.{miscounted};
+ghost use Rattle.desk.specs.Lowest.{lowest};
+ghost use Rattle.desk.specs.Desk.{verdictsBefore, zeroOrOne, badVerdicts, certificateDenied, moduleDenied};
+
+// How many verdicts stand before those of the entries.
+pub(crate) fn count_before(kind: Kind) -> usize
+    ensures { λ r. ⌜ r ≡ verdictsBefore kind ⌝ }
+{
+    match kind {
+        Kind::Read => 2,
+        Kind::Increment => 1,
+    }
+}
+
+// Whether every verdict is 0 or 1.
+fn zero_or_one(verdicts: &[u8]) -> bool
+    ensures { λ r. ⌜ r ≡ zeroOrOne (now (verdicts .entry)) ⌝ }
+{
+    let mut i = 0;
+    while i < verdicts.len() {
+        if 1 < verdicts[i] {
+            return false;
+        }
+        i += 1;
+    }
+    true
+}
+
+// Check 6: whether the list has another length than the proof's shape asks for, or a byte over 1.
+pub(crate) fn bad(proof: Proof, verdicts: &[u8]) -> bool
+    ensures { λ r. ⌜ r ≡ badVerdicts proof (now (verdicts .entry)) ⌝ }
+{
+    let kind = proof.kind;
+    if verdicts.len() != count_before(kind) + 2 * (proof.count as usize) {
+        return true;
+    }
+    !zero_or_one(verdicts)
+}
+
+// Check 9 at the clock certificate.
+pub(crate) fn certificate_denied(kind: Kind, verdicts: &[u8]) -> bool
+    ensures { λ r. ⌜ r ≡ certificateDenied kind (now (verdicts .entry)) ⌝ }
+{
+    match kind {
+        Kind::Read => byte_at(verdicts, 1) == 0,
+        Kind::Increment => false,
+    }
+}
+
+// Check 9 at the entries: the place of the first that the module denies, 0 where there is none.
+pub(crate) fn first_denied(verdicts: &[u8], before: usize, count: u32) -> u32
+    requires { ⌜ (before ≤ 2) × (count ≤ maxEntries) ⌝ }
+    ensures { λ r. ⌜ r ≡ lowest (moduleDenied (now (verdicts .entry)) before) count ⌝ }
+{
+    let mut at = before;
+    let mut place: u32 = 0;
+    while place < count {
+        place += 1;
+        if byte_at(verdicts, at) == 0 {
+            return place;
+        }
+        at += 2;
+    }
+    0
+}

@@ -1,0 +1,107 @@
+// Verifying a validity proof: document 01's table, check by check.
+use crate::answer::Answer;
+use crate::closing::closes_elsewhere;
+use crate::closing::closing_reading;
+use crate::closing::wrong_closing;
+use crate::log::first_unsigned;
+use crate::log::first_wrong_reading;
+use crate::log::walk_values;
+use crate::verdicts;
+use forms::bytes::byte_at;
+use forms::confirmation::Confirmation;
+use forms::nonce;
+use forms::proof::Parsed;
+use forms::proof::Proof;
+use forms::proof::parse;
+use forms::terms::CounterId;
+ghost use mathlib.Core.Path.{_≡_};
+ghost use mathlib.Core.Bool.{false};
+ghost use Rattle.forms.specs.Proof.{miscounted};
+ghost use Rattle.desk.specs.Desk.{badWanted, badConfirmation, judged, verified};
+
+// Check 1: whether what is wanted can't be.
+fn bad_wanted(id: CounterId, nonce: &[u8]) -> bool
+    ensures { λ r. ⌜ r ≡ badWanted id (now (nonce .entry)) ⌝ }
+{
+    if id.0 == 0 {
+        return true;
+    }
+    nonce.len() != nonce::LEN
+}
+
+// Check 7: whether the confirmation is another counter's, or its value above its reading.
+fn bad_confirmation(confirmation: Confirmation, id: CounterId) -> bool
+    ensures { λ r. ⌜ r ≡ badConfirmation confirmation id ⌝ }
+{
+    if confirmation.id.0 != id.0 {
+        return true;
+    }
+    confirmation.reading.0 < confirmation.value
+}
+
+// Checks 6 to 13, of bytes that read as a proof.
+fn judge(s: &[u8], proof: Proof, verdicts: &[u8], id: CounterId, nonce: &[u8]) -> Answer
+    requires { ⌜ miscounted proof ≡ false ⌝ }
+    ensures { λ r. ⌜ r ≡ judged proof (now (s .entry)) (now (verdicts .entry)) id (now (nonce .entry)) ⌝ }
+{
+    let kind = proof.kind;
+    let count = proof.count;
+    let log = proof.log_offset();
+    let before = verdicts::count_before(kind);
+    let confirmation = Confirmation::read(s, Proof::CONFIRMATION);
+    let start = confirmation.reading;
+    if verdicts::bad(proof, verdicts) {
+        return Answer::Refused(6, 0);
+    }
+    if bad_confirmation(confirmation, id) {
+        return Answer::Refused(7, 0);
+    }
+    if byte_at(verdicts, 0) == 0 {
+        return Answer::Refused(8, 0);
+    }
+    if verdicts::certificate_denied(kind, verdicts) {
+        return Answer::Refused(9, 0);
+    }
+    let denied = verdicts::first_denied(verdicts, before, count);
+    if denied != 0 {
+        return Answer::Refused(9, denied);
+    }
+    if closes_elsewhere(s, proof, id, nonce) {
+        return Answer::Refused(10, 0);
+    }
+    let wrong = first_wrong_reading(s, log, count, start);
+    if wrong != 0 {
+        return Answer::Refused(11, wrong);
+    }
+    if wrong_closing(s, proof, start) {
+        return Answer::Refused(11, count + 1);
+    }
+    let unsigned = first_unsigned(s, log, verdicts, before, id, count);
+    if unsigned != 0 {
+        return Answer::Refused(12, unsigned);
+    }
+    let walk = walk_values(s, log, id, confirmation.value, count);
+    if walk.place != 0 {
+        return Answer::Refused(13, walk.place);
+    }
+    Answer::Accepted(walk.value, closing_reading(s, proof))
+}
+
+// The desk's answer to proof, verdicts, wanted counter and wanted nonce. Nothing is asked of the caller, and nothing is written.
+//
+// Ruled out, among others: a desk that answers with the last value before instead of the last reading; one that turns every proof away.
+pub fn verify(proof: &[u8], verdicts: &[u8], id: CounterId, nonce: &[u8]) -> Answer
+    ensures { λ r. ⌜ r ≡ verified (now (proof .entry)) (now (verdicts .entry)) id (now (nonce .entry)) ⌝ }
+{
+    if bad_wanted(id, nonce) {
+        return Answer::Refused(1, 0);
+    }
+    let parsed = parse(proof);
+    match parsed {
+        Parsed::TooShort => Answer::Refused(2, 0),
+        Parsed::UnknownForm => Answer::Refused(3, 0),
+        Parsed::BadCount => Answer::Refused(4, 0),
+        Parsed::BadLayout => Answer::Refused(5, 0),
+        Parsed::Proof(shape) => judge(proof, shape, verdicts, id, nonce),
+    }
+}

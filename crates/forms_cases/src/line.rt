@@ -1,0 +1,31 @@
+// A printed line: words, and figures with a space before each.
+use libc::STDOUT_FILENO;
+
+pub fn text(words: &[u8]) {
+    io::write_all(STDOUT_FILENO, words);
+}
+
+pub fn number(figure: u64) {
+    text(b" ");
+    io::print_decimal(STDOUT_FILENO, figure);
+}
+
+pub fn figure(figure: u32) {
+    number(figure as u64);
+}
+
+pub fn size(figure: usize) {
+    number(figure as u64);
+}
+
+pub fn verdict(holds: bool) {
+    if holds {
+        text(b" yes");
+    } else {
+        text(b" no");
+    }
+}
+
+pub fn end() {
+    text(b"\n");
+}

@@ -1,0 +1,88 @@
+// The fields that the cases write. Neighbouring bytes differ, so that a byte out of its place shows.
+use forms::certificate::Certificate;
+use forms::confirmation::Confirmation;
+use forms::entry::Entry;
+use forms::event::Carried;
+use forms::nonce::LEN;
+use forms::nonce::Nonce;
+use forms::proof::Proof;
+use forms::terms::CounterId;
+use forms::terms::GlobalClock;
+
+// One entry more than a proof may have.
+pub const ENTRIES: u32 = Proof::MAX_ENTRIES + 1;
+
+pub const ENTRIES_LEN: usize = Entry::LEN * (ENTRIES as usize);
+
+// Room for the longest proof and one entry more.
+pub const OUTPUT_LEN: usize = Proof::MAX_LEN + Entry::LEN;
+
+// What an output holds before.
+pub const UNTOUCHED: u8 = 0xA5;
+
+const READING: u32 = 0x090A0B0C;
+
+pub const CERTIFICATE_SEED: u8 = 0xF8;
+
+pub fn confirmation() -> Confirmation {
+    Confirmation::new(CounterId(0x01020304), 0x05060708, GlobalClock(READING))
+}
+
+pub fn certificate() -> Certificate {
+    Certificate::new(GlobalClock(0x0D0E0F10), nonce(CERTIFICATE_SEED))
+}
+
+// The byte behind, with 0 behind 255.
+pub fn next(byte: u8) -> u8 {
+    if byte < 255 { byte + 1 } else { 0 }
+}
+
+// Twenty bytes that count up from the seed.
+pub fn nonce(seed: u8) -> Nonce {
+    let mut nonce = [0u8; LEN];
+    let mut byte = seed;
+    let mut i: usize = 0;
+    while i < LEN {
+        nonce[i] = byte;
+        byte = next(byte);
+        i += 1;
+    }
+    nonce
+}
+
+// The same nonce but for its last byte.
+pub fn other(seed: u8) -> Nonce {
+    let mut other = nonce(seed);
+    other[LEN - 1] = seed;
+    other
+}
+
+pub fn entry_seed(place: u32) -> u8 {
+    (place % 256) as u8
+}
+
+// Every third increment, from the second on, carries nothing.
+fn carried(place: u32) -> Carried {
+    if place % 3 == 1 {
+        return Carried::Tick;
+    }
+    Carried::Request(
+        CounterId(0x11121314 + place % 3),
+        0x21222324 + place % 65536,
+    )
+}
+
+// The entry at a place of the log, from 0.
+pub fn entry(place: u32) -> Entry {
+    let reading = GlobalClock(READING + 1 + place % 65536);
+    Entry::new(reading, carried(place), nonce(entry_seed(place)))
+}
+
+// Stores the entries from place 0 on.
+pub fn fill(entries: &mut [u8]) {
+    let mut place: u32 = 0;
+    while place < ENTRIES {
+        entry(place).write(entries, Entry::LEN * (place as usize));
+        place += 1;
+    }
+}

@@ -1,0 +1,10 @@
+pub mod History
+pub mod HistoryLaws
+pub mod Nonce
+pub mod NonceLaws
+pub mod Step
+pub mod StepLaws
+pub mod Value
+pub mod ValueLaws
+pub mod Walk
+pub mod WalkLaws
