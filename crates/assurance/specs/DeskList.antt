@@ -2,11 +2,10 @@
 -- its own. Assumes nothing.
 use Prim.Native.Nat.{ℕ, _≤_, _<_}
 use mathlib.Core.Path.{_≡_}
-use mathlib.Core.Bool.{Bool, true}
-use mathlib.Core.List.{List, [], _∷_, _++_}
-use mathlib.Core.Option.{Option, some}
+use mathlib.Core.Bool.{true}
+use mathlib.Core.List.{List, [], _∷_}
+use mathlib.Core.Option.{some}
 use lib.ListN.{getD, take, getElem?}
-use Rattle.forms.specs.Event.{increment}
 use Rattle.forms.specs.Proof.{logOffset, shapeAt}
 use Rattle.forms.specs.Terms.{globalClock}
 use Rattle.forms.specs.declared.terms.CounterId.{CounterId}
@@ -119,12 +118,12 @@ pub record MadeFrom (l : List Item) (i : ℕ) (k : Confirmation) : Type 0 where
   pub value : shown from .value ≡ k .value
   pub reading : closes from ≡ k .reading
 
--- what demand 3 supposes of a counter: true verdicts in its accepted calls, opened once, each other confirmation made from a proof
--- accepted before it stood in the list
-pub record Supposed (first : GlobalClock) (signed : Signatures) (l : List Item) (id : CounterId) : Type 0 where
-  pub truth : (i : ℕ) (c : Call) → At l i (call c) → c .id ≡ id → Accepted c → Truth first signed l i c
-  pub opened : (i : ℕ) (k : Confirmation) → Opening l id i k → k .value ≡ k .reading .0
-  pub others : (i j : ℕ) (k opening : Confirmation) → Opening l id j opening → j < i → At l i (confirmed k) → k .id ≡ id → MadeFrom l i k
+-- what demand 3 supposes of a counter, of the list up to place i alone: true verdicts in its accepted calls, opened once, each other
+-- confirmation made from a proof accepted before it stood in the list
+pub record Supposed (first : GlobalClock) (signed : Signatures) (l : List Item) (id : CounterId) (i : ℕ) : Type 0 where
+  pub truth : (j : ℕ) (c : Call) → j ≤ i → At l j (call c) → c .id ≡ id → Accepted c → Truth first signed l j c
+  pub opened : (j : ℕ) (k : Confirmation) → j ≤ i → Opening l id j k → k .value ≡ k .reading .0
+  pub others : (j place : ℕ) (k opening : Confirmation) → j ≤ i → Opening l id place opening → place < j → At l j (confirmed k) → k .id ≡ id → MadeFrom l j k
 
 -- ---- the claim
 
@@ -141,8 +140,8 @@ abbrev pub Fresh : GlobalClock → List Item → Call → Type 0
 Fresh first l c = (j : ℕ) → New (c .nonce) (history (take j l)) → clockAfter first (history (take j l)) .0 ≤ closes c .0
 
 -- For every first reading, every choice of signed requests and every list: each accepted call is sound where demand 3's suppositions of
--- its counter hold, and fresh where its verdicts are true.
+-- its counter hold up to the call, and fresh where its verdicts are true.
 abbrev pub DeskClaim : Type 0
 DeskClaim =
     (first : GlobalClock) (signed : Signatures) (l : List Item) (i : ℕ) (c : Call) → At l i (call c) → Accepted c
-    → (Supposed first signed l (c .id) → Sound first signed l c) × (Truth first signed l i c → Fresh first l c)
+    → (Supposed first signed l (c .id) i → Sound first signed l c) × (Truth first signed l i c → Fresh first l c)

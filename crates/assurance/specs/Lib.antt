@@ -1,1 +1,11 @@
+pub mod Accepted
+pub mod DeskExample
+pub mod DeskFreshness
 pub mod DeskList
+pub mod DeskProof
+pub mod DeskSoundness
+pub mod DeskWitness
+pub mod EntryCounts
+pub mod EntryWalk
+pub mod ListLaws
+pub mod Rows

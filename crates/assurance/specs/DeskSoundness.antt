@@ -1,0 +1,116 @@
+-- Each accepted call shows the value that the history gives its counter at the reading that the proof closes on, by induction on its place:
+-- its confirmation is the counter's opening or was made from a proof accepted before. What stands after the call is not supposed anything
+-- of. Assumes nothing.
+use Prim.Native.Nat.{ℕ, zero, suc, _≤_, _<_}
+use mathlib.Core.Path.{_≡_, refl, sym, ap, subst, subst₂, _∙_}
+use mathlib.Core.Logic.{_⊎_, inl, inr}
+use mathlib.Core.List.{List}
+use native.Mathlib.Nat.{le-refl}
+use native.Mathlib.Omega.{arith}
+use Rattle.forms.specs.Proof.{logOffset}
+use Rattle.forms.specs.declared.confirmation.Confirmation.{Confirmation}
+use Rattle.forms.specs.declared.terms.CounterId.{CounterId}
+use Rattle.forms.specs.declared.terms.GlobalClock.{GlobalClock}
+use Rattle.desk.specs.Desk.{confirmation}
+use Rattle.history.specs.Value.{Signatures, counts, valueAt}
+use Rattle.history.specs.ValueLaws.{valueAt-opened, valueAt-walks-on}
+use Rattle.history.specs.Walk.{walk}
+use Rattle.assurance.specs.Accepted.{Passed, countOf, accepted-passed}
+use Rattle.assurance.specs.DeskList.{Call, Item, confirmed, call, At, history, shown, Accepted, closes, kindOf, Truth, Unopened, Opening, MadeFrom, Supposed, Sound}
+use Rattle.assurance.specs.EntryCounts.{entry-counts}
+use Rattle.assurance.specs.EntryWalk.{Placed, placed-walk}
+use Rattle.assurance.specs.ListLaws.{Opened, opened-or-not}
+
+-- a value is the one that the history gives a counter at a reading, counted from its opening
+record Settled (first : GlobalClock) (signed : Signatures) (l : List Item) (id : CounterId) (reading : GlobalClock) (value : ℕ) : Type 0 where
+  place : ℕ
+  opening : Confirmation
+  opens : Opening l id place opening
+  within : opening .reading .0 ≤ reading .0
+  given : value ≡ valueAt signed id first (history l) (opening .reading) reading
+
+module _ (first : GlobalClock) (signed : Signatures) (l : List Item) where
+  -- an opening whose value is its reading
+  opening-settled : (id : CounterId) (j : ℕ) (k : Confirmation) → Opening l id j k → k .value ≡ k .reading .0
+      → Settled first signed l id (k .reading) (k .value)
+  opening-settled id j k opens same =
+      record {
+        place = j;
+        opening = k;
+        opens = opens;
+        within = le-refl (k .reading .0);
+        given = same ∙ sym (valueAt-opened signed id first (history l) (k .reading));
+      }
+
+  -- from the confirmation's value, the value shown
+  call-settled : (i : ℕ) (c : Call) → Passed c → Truth first signed l i c
+      → Settled first signed l (c .id) (confirmation (c .proof) .reading) (confirmation (c .proof) .value)
+      → Settled first signed l (c .id) (closes c) (shown c .value)
+  call-settled i c passed truth settled =
+      let s = c .proof in
+      let n = countOf c in
+      let log = logOffset (kindOf c) in
+      let start = confirmation s .reading in
+      let counting = counts signed (c .id) first (history l) in
+      let opened = settled .opening .reading in
+      let placed : (k : ℕ) → 1 ≤ k → k ≤ n → Placed counting (c .id) s log (start .0) k = λ k low high. (
+        passed .readings k low high,
+        ap counting (sym (passed .readings k low high)) ∙ entry-counts first signed l i c passed truth k low high,
+      ) in
+      record {
+        place = settled .place;
+        opening = settled .opening;
+        opens = settled .opens;
+        within = subst (λ (t : GlobalClock). opened .0 ≤ t .0) (sym (passed .closing)) (omega (arith, settled .within));
+        given =
+            passed .value
+            ∙ placed-walk counting (c .id) s log (confirmation s .value) (start .0) n placed
+            ∙ ap (λ (v : ℕ). walk counting v start n) (settled .given)
+            ∙ sym (valueAt-walks-on signed (c .id) first (history l) opened start n (settled .within))
+            ∙ ap (valueAt signed (c .id) first (history l) opened) (sym (passed .closing));
+      }
+
+  module _ (id : CounterId) (i : ℕ) (supposed : Supposed first signed l id i) where
+    -- a confirmation of the counter, where the calls before it are settled
+    confirmation-settled : (j : ℕ) (k : Confirmation) → j ≤ i → At l j (confirmed k) → k .id ≡ id
+        → ((place : ℕ) (c : Call) → place < j → At l place (call c) → c .id ≡ id → Accepted c → Settled first signed l id (closes c) (shown c .value))
+        → Settled first signed l id (k .reading) (k .value)
+    confirmation-settled j k up-to stands own before = from (opened-or-not l id j)
+      where
+        made : MadeFrom l j k → Settled first signed l id (k .reading) (k .value)
+        made m =
+            subst₂ (λ (t : GlobalClock) (v : ℕ). Settled first signed l id t v) (m .reading) (m .value)
+            (before (m .place) (m .from) (m .earlier) (m .stands) (m .id ∙ own) (m .accepted))
+
+        from : Unopened l id j ⊎ Opened l id j → Settled first signed l id (k .reading) (k .value)
+        from (inl unopened) =
+            let opens : Opening l id j k = record { stands = stands; own = own; before = unopened } in
+            opening-settled id j k opens (supposed .opened j k up-to opens)
+        from (inr found) = made (supposed .others j (found .place) k (found .opening) up-to (found .opens) (found .earlier) stands own)
+
+    -- every accepted call of the counter up to the place, by a bound on its own place
+    settled-below : (bound j : ℕ) (c : Call) → j < bound → j ≤ i → At l j (call c) → c .id ≡ id → Accepted c
+        → Settled first signed l id (closes c) (shown c .value)
+    settled-below zero j c below up-to stands own accepted = absurd (omega arith)
+    settled-below (suc bound) j c below up-to stands own accepted =
+        let passed = accepted-passed c accepted in
+        let truth = supposed .truth j c up-to stands own accepted in
+        let confirms = truth .confirmation-yes (passed .confirmation-yes) in
+        let settled = confirmation-settled (confirms .0) (confirmation (c .proof)) (omega (arith, confirms .1)) (confirms .2) (passed .own ∙ own)
+        (λ place c′ earlier. settled-below bound place c′ (omega (arith, confirms .1)) (omega (arith, confirms .1)))
+        in
+        subst (λ (x : CounterId). Settled first signed l x (closes c) (shown c .value)) own
+        (call-settled j c passed truth
+        (subst (λ (x : CounterId). Settled first signed l x (confirmation (c .proof) .reading) (confirmation (c .proof) .value)) (sym own) settled))
+
+  -- an accepted call is sound where what demand 3 supposes of its counter holds up to the call
+  pub accepted-sound : (i : ℕ) (c : Call) → At l i (call c) → Accepted c → Supposed first signed l (c .id) i → Sound first signed l c
+  accepted-sound i c stands accepted supposed =
+      let settled = settled-below (c .id) i supposed (suc i) i c (omega arith) (omega arith) stands refl accepted in
+      record {
+        place = settled .place;
+        opening = settled .opening;
+        opens = settled .opens;
+        within = settled .within;
+        value = settled .given;
+      }

@@ -1,0 +1,256 @@
+-- The list of DeskExample.antt meets every supposition of the desk's claim, so the claim speaks of something; and what it says of the two
+-- accepted calls there, in figures. All by computing. Assumes nothing.
+use Prim.Native.Nat.{ℕ, zero, suc, _≤_, _<_}
+use mathlib.Core.Path.{_≡_, refl, sym, ap, subst, _∙_}
+use mathlib.Core.Bool.{true, false}
+use mathlib.Core.List.{List, [], _∷_}
+use lib.Dec.{eqb, lit<}
+use lib.ListN.{getD, take}
+use native.Mathlib.Decide.{decLe}
+use native.Mathlib.Omega.{arith}
+use borrow.Author.Tests.{eqb-false}
+use Rattle.forms.specs.Bytes.{same, window}
+use Rattle.forms.specs.Certificate.{certificateAt, certificateBytes}
+use Rattle.forms.specs.Chain.{step, follows, valueAfter}
+use Rattle.forms.specs.Confirmation.{confirmationAt, confirmationBytes}
+use Rattle.forms.specs.Entry.{entryAt, entriesAt, entryBytes, logBytes}
+use Rattle.forms.specs.Event.{increment}
+use Rattle.forms.specs.Proof.{headerOf, headerBytes, encode}
+use Rattle.forms.specs.Terms.{counterId, globalClock}
+use Rattle.forms.specs.declared.confirmation.Confirmation.{Confirmation}
+use Rattle.forms.specs.declared.event.Carried.{Carried}
+use Rattle.forms.specs.declared.terms.CounterId.{CounterId}
+use Rattle.desk.specs.Desk.{zeroOrOne, badWanted, badVerdicts, badConfirmation, certificateDenied, moduleDenied, closesElsewhere, wrongReading, wrongClosing, ownerDenied, breaksChain, closing, verified}
+use Rattle.desk.specs.Lowest.{lowestFrom}
+use Rattle.history.specs.History.{increments, clockAfter, incrementAt}
+use Rattle.history.specs.Nonce.{New}
+use Rattle.history.specs.Value.{valueAt}
+use Rattle.assurance.specs.DeskExample.{nonce, seven, nine, start, signed, opening, later, entryFor, by-read, left-out, by-increment, items}
+use Rattle.assurance.specs.DeskList.{Call, Item, event, confirmed, call, At, history, shown, Accepted, closes, entryOf, requestOf, Shows, Truth, Unopened, Opening, MadeFrom, Supposed}
+use Rattle.assurance.specs.DeskProof.{desk-claim}
+use Rattle.assurance.specs.ListLaws.{opening-once}
+
+-- ---- what is computed with, named once
+
+-- the list and its history, the byte forms, the desk's tests, and its table
+the-list : Unit {0}
+unfolding nonce seven nine start signed opening later entryFor by-read left-out by-increment items history increments clockAfter incrementAt
+the-list = tt
+
+the-forms : Unit {0}
+unfolding same window headerOf headerBytes encode confirmationAt confirmationBytes certificateAt certificateBytes entryAt entriesAt entryBytes logBytes
+the-forms = tt
+
+the-desk : Unit {0}
+unfolding step follows valueAfter zeroOrOne badWanted badVerdicts badConfirmation certificateDenied moduleDenied closesElsewhere wrongReading
+the-desk = tt
+
+the-table : Unit {0}
+unfolding wrongClosing ownerDenied breaksChain closing verified lowestFrom
+the-table = tt
+
+-- all of it
+computed : Unit {0}
+unfolding the-list the-forms the-desk the-table
+computed = tt
+
+-- ---- what the desk answers
+
+-- the first call is accepted
+pub by-read-shows : shown by-read ≡ record { number = 0; value = 101; closing = 103; place = 0 }
+unfolding computed
+by-read-shows = refl
+
+-- the second is not: its first entry has t = 102
+pub left-out-refused : shown left-out ≡ record { number = 11; value = 0; closing = 0; place = 1 }
+unfolding computed
+left-out-refused = refl
+
+-- the third is accepted
+pub by-increment-shows : shown by-increment ≡ record { number = 0; value = 104; closing = 104; place = 0 }
+unfolding computed
+by-increment-shows = refl
+
+-- ---- facts place by place
+
+-- a fact of every item of a list at its place
+abbrev Everywhere : (ℕ → Item → Type 0) → List Item → Type 0
+Everywhere P [] = Unit {0}
+Everywhere P (x ∷ l) = P 0 x × Everywhere (λ i. P (suc i)) l
+
+-- holds of the item at each place
+everywhere-at : (P : ℕ → Item → Type 0) (l : List Item) → Everywhere P l → (i : ℕ) (x : Item) → At l i x → P i x
+everywhere-at P [] all i x stands = absurd (let z : _≡_ {A = ℕ} 0 1 = cc in omega arith)
+everywhere-at P (y ∷ l) all zero x stands = subst (P 0) (let same : y ≡ x = cc in same) (all .0)
+everywhere-at P (y ∷ l) all (suc i) x stands = everywhere-at (λ j. P (suc j)) l (all .1) i x stands
+
+-- a fact of each number from 1 on
+abbrev UpTo : (ℕ → Type 0) → ℕ → Type 0
+UpTo P zero = Unit {0}
+UpTo P (suc n) = UpTo P n × P (suc n)
+
+-- holds of each number from 1 on
+up-to-at : (P : ℕ → Type 0) (n : ℕ) → UpTo P n → (k : ℕ) → 1 ≤ k → k ≤ n → P k
+up-to-at P zero all k low high = absurd (omega arith)
+up-to-at P (suc n) all k low high = from (decLe k n) (up-to-at P n (all .0) k low)
+  where
+    from : Dec (k ≤ n) → (k ≤ n → P k) → P k
+    from (yes less) below = below less
+    from (no more) below = subst P (let same : suc n ≡ k = omega arith in same) (all .1)
+
+-- ids that differ are not the same
+other-id : {A : Type 0} (m n : ℕ) → eqb m n ≡ false → counterId m ≡ counterId n → A
+other-id m n other same = absurd (eqb-false m n other (ap (λ (x : CounterId). x .0) same))
+
+-- ---- true verdicts
+
+-- the history before place i has the increment of entry k
+abbrev ModuleTrue : ℕ → Call → ℕ → Type 0
+ModuleTrue i c k = Shows (incrementAt start (history (take i items)) (entryOf c k .reading)) (entryOf c k)
+
+-- entry k is signed, if it is the wanted counter's
+abbrev OwnerTrue : Call → ℕ → Type 0
+OwnerTrue c k = entryOf c k .id ≡ c .id → signed (requestOf (entryOf c k)) ≡ true
+
+-- the verdicts of the first call are true
+by-read-true : Truth start signed items 6 by-read
+unfolding computed
+by-read-true =
+    record {
+      confirmation-yes = λ is-yes. (0, lit< tt, refl);
+      certificate-yes = λ read is-yes. record {
+        earlier =
+            increment (Carried.Request seven 100) (nonce 1)
+            ∷ increment (Carried.Request nine 100) (nonce 2)
+            ∷ increment Carried.Tick (nonce 3)
+            ∷ [];
+        later = [];
+        split = refl;
+        reached = refl;
+      };
+      module-yes = λ k low high is-yes.
+          up-to-at (ModuleTrue 6 by-read) 3 (((tt, (refl, refl, refl)), (refl, refl, refl)), (refl, refl, refl)) k low high;
+      owner-yes = λ k low high own is-yes.
+          up-to-at (OwnerTrue by-read) 3 (((tt, λ same. refl), other-id 9 7 refl), other-id 0 7 refl) k low high own;
+    }
+
+-- and those of the third
+by-increment-true : Truth start signed items 10 by-increment
+unfolding computed
+by-increment-true =
+    record {
+      confirmation-yes = λ is-yes. (8, lit< tt, refl);
+      certificate-yes = λ read is-yes. absurd (let z : _≡_ {A = ℕ} 0 1 = cc in omega arith);
+      module-yes = λ k low high is-yes. up-to-at (ModuleTrue 10 by-increment) 1 (tt, (refl, refl, refl)) k low high;
+      owner-yes = λ k low high own is-yes. up-to-at (OwnerTrue by-increment) 1 (tt, λ same. refl) k low high own;
+    }
+
+-- ---- the suppositions
+
+-- each of them, of the item at a place: the verdicts of an accepted call are true
+abbrev TrueAt : ℕ → Item → Type 0
+TrueAt i (event e) = Unit {0}
+TrueAt i (confirmed k) = Unit {0}
+TrueAt i (call c) = Accepted c → Truth start signed items i c
+
+-- a confirmation before which there is none opens with its reading as value
+abbrev OpenedAt : ℕ → Item → Type 0
+OpenedAt i (event e) = Unit {0}
+OpenedAt i (confirmed k) = k .id ≡ seven → Unopened items seven i → k .value ≡ k .reading .0
+OpenedAt i (call c) = Unit {0}
+
+-- one with places before it was made from an accepted call
+abbrev MadeAt : ℕ → Item → Type 0
+MadeAt i (event e) = Unit {0}
+MadeAt i (confirmed k) = k .id ≡ seven → (j : ℕ) → j < i → MadeFrom items i k
+MadeAt i (call c) = Unit {0}
+
+-- the later confirmation was made from the first call
+later-made : MadeFrom items 8 later
+unfolding computed
+later-made =
+    record {
+      place = 6;
+      from = by-read;
+      earlier = lit< tt;
+      stands = refl;
+      accepted = refl;
+      id = refl;
+      value = refl;
+      reading = refl;
+    }
+
+-- every accepted call's verdicts are true
+all-true : Everywhere TrueAt items
+unfolding computed
+all-true = (
+  tt,
+  (tt, (tt, (tt, (tt, (tt, (λ accepted. by-read-true, (λ accepted. absurd (omega arith), (tt, (tt, (λ accepted. by-increment-true, (tt, tt))))))))))),
+)
+
+-- counter 7 is opened with its reading as value
+all-opened : Everywhere OpenedAt items
+unfolding computed
+all-opened = (
+  λ own unopened. refl,
+  (
+    λ own unopened. other-id 9 7 refl own,
+    (tt, (tt, (tt, (tt, (tt, (tt, (λ own unopened. absurd (unopened 0 opening (lit< tt) refl refl), (tt, (tt, (tt, tt)))))))))),
+  ),
+)
+
+-- its other confirmation was made from an accepted call
+all-made : Everywhere MadeAt items
+unfolding computed
+all-made = (
+  λ own j earlier. absurd (omega arith),
+  (λ own j earlier. other-id 9 7 refl own, (tt, (tt, (tt, (tt, (tt, (tt, (λ own j earlier. later-made, (tt, (tt, (tt, tt))))))))))),
+)
+
+-- what demand 3 supposes of counter 7 holds of the list, up to every place
+pub supposed : (i : ℕ) → Supposed start signed items seven i
+supposed i =
+    record {
+      truth = λ j c up-to stands own accepted. everywhere-at TrueAt items all-true j (call c) stands accepted;
+      opened = λ j k up-to opens. everywhere-at OpenedAt items all-opened j (confirmed k) (opens .stands) (opens .own) (opens .before);
+      others = λ j place k first up-to opens earlier stands own. everywhere-at MadeAt items all-made j (confirmed k) stands own place earlier;
+    }
+
+-- ---- what the claim says of it
+
+-- the opening of counter 7 stands first
+opens : Opening items seven 0 opening
+unfolding computed
+opens = record { stands = refl; own = refl; before = λ j k earlier stands own. omega arith }
+
+-- an accepted call of counter 7 shows the value that the history gives it from reading 100 on
+shows-value : (i : ℕ) (c : Call) → At items i (call c) → c .id ≡ seven → Accepted c
+    → shown c .value ≡ valueAt signed seven start (history items) start (closes c)
+unfolding opening
+shows-value i c stands own accepted =
+    let sound = desk-claim start signed items i c stands accepted .0 (subst (λ (id : CounterId). Supposed start signed items id i) (sym own) (supposed i)) in
+    let same : sound .opening ≡ opening =
+    opening-once items (c .id) (sound .place) 0 (sound .opening) opening (sound .opens)
+    (subst (λ (id : CounterId). Opening items id 0 opening) (sym own) opens)
+    in
+    sound .value
+    ∙ ap (λ (k : Confirmation). valueAt signed (c .id) start (history items) (k .reading) (closes c)) same
+    ∙ ap (λ (id : CounterId). valueAt signed id start (history items) start (closes c)) own
+
+-- by the claim, the history's value of counter 7 at reading 103 is the 101 that the first accepted call shows
+pub value-at-103 : valueAt signed seven start (history items) start (globalClock 103) ≡ 101
+unfolding computed
+value-at-103 = sym (shows-value 6 by-read refl refl refl)
+
+-- and at reading 104 it is the 104 that the second shows
+pub value-at-104 : valueAt signed seven start (history items) start (globalClock 104) ≡ 104
+unfolding computed
+value-at-104 = sym (shows-value 10 by-increment refl refl refl)
+
+-- the first call's nonce was new right before its clock read, where the clock was at the reading that the proof closes on
+pub nonce-new : New (nonce 5) (history (take 5 items)) × (clockAfter start (history (take 5 items)) ≡ closes by-read)
+unfolding computed New
+nonce-new = ((other-nonce 1 refl, (other-nonce 2 refl, (other-nonce 3 refl, tt))), refl)
+  where
+    other-nonce : (b : ℕ) → eqb b 5 ≡ false → nonce b ≡ nonce 5 → ⊥
+    other-nonce b other same = eqb-false b 5 other (ap (λ (l : List ℕ). getD l 0 0) same)

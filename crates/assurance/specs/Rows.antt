@@ -1,0 +1,205 @@
+-- What each row of the desk's table says where its test does not hold, and that number 0 means that no test holds. The rows stand in the
+-- table's order. Assumes nothing.
+use Prim.Native.Nat.{ℕ, zero, suc, _+_, _≤_}
+use mathlib.Core.Path.{_≡_, refl, sym, ap, subst, _∙_}
+use mathlib.Core.Bool.{Bool, true, false, not, cond, _&&_, _||_, true≢false, false≢true}
+use mathlib.Core.List.{List, [], _∷_}
+use native.Mathlib.Omega.{arith}
+use lib.Dec.{eqb, leb, ltb}
+use lib.ListN.{length, getD}
+use lib.Seq.{take-all}
+use borrow.Author.Tests.{eqb-true, eqb-false, eq-eqb, ltb-false, leb-true, not-false}
+use Rattle.forms.specs.Bytes.{same, window}
+use Rattle.forms.specs.BytesLaws.{same-equal, window-part}
+use Rattle.forms.specs.Chain.{follows}
+use Rattle.forms.specs.Checks.{Row, firstOf}
+use Rattle.forms.specs.Limits.{nonceLen}
+use Rattle.forms.specs.Proof.{miscounted, logOffset}
+use Rattle.forms.specs.ProofLaws.{both, count-some}
+use Rattle.forms.specs.Terms.{counterId, globalClock, sameId}
+use Rattle.forms.specs.declared.confirmation.Confirmation.{Confirmation}
+use Rattle.forms.specs.declared.proof.Kind.{Kind}
+use Rattle.forms.specs.declared.proof.Proof.{Proof}
+use Rattle.forms.specs.declared.terms.CounterId.{CounterId}
+use Rattle.forms.specs.declared.terms.GlobalClock.{GlobalClock}
+use Rattle.desk.specs.Answer.{figures}
+use Rattle.desk.specs.declared.answer.Answer.{Answer}
+use Rattle.desk.specs.Desk.{confirmation, certificate, entry, verdictCount, zeroOrOne, isNo, moduleVerdict, ownerVerdict, badWanted, badVerdicts, badConfirmation, certificateDenied, moduleDenied, closesElsewhere, wrongReading, wrongClosing, ownerDenied, valueBefore, breaksChain, closing}
+use Rattle.desk.specs.LowestLaws.{Clear}
+
+-- ---- a table of refusals
+
+-- every row gives a refusal
+abbrev pub refusing : List (Row Answer) → Bool
+refusing [] = true
+refusing (row ∷ rows) = not (eqb (figures (row .answer) .number) 0) && refusing rows
+
+-- the test of a row, by its place from 0
+abbrev pub test : List (Row Answer) → ℕ → Bool
+test [] k = false
+test (row ∷ rows) zero = row .test
+test (row ∷ rows) (suc k) = test rows k
+
+-- where the answer has number 0, a refusal was passed over
+pub refusal-passed : (held : Bool) (refusal others : Answer) → not (eqb (figures refusal .number) 0) ≡ true → figures (cond held refusal others) .number ≡ 0
+    → (held ≡ false) × (figures others .number ≡ 0)
+refusal-passed true refusal others refused accepted =
+    absurd (false≢true (ap not (sym (eq-eqb (figures refusal .number) 0 accepted)) ∙ refused))
+refusal-passed false refusal others refused accepted = (refl, accepted)
+
+-- and so was every row of a table
+pub rows-passed : (rows : List (Row Answer)) (otherwise : Answer) → refusing rows ≡ true → figures (firstOf rows otherwise) .number ≡ 0
+    → (k : ℕ) → test rows k ≡ false
+rows-passed [] otherwise refused accepted k = refl
+rows-passed (row ∷ rows) otherwise refused accepted zero =
+    let each = both (not (eqb (figures (row .answer) .number) 0)) (refusing rows) refused in
+    refusal-passed (row .test) (row .answer) (firstOf rows otherwise) (each .0) accepted .0
+rows-passed (row ∷ rows) otherwise refused accepted (suc k) =
+    let each = both (not (eqb (figures (row .answer) .number) 0)) (refusing rows) refused in
+    rows-passed rows otherwise (each .1) (refusal-passed (row .test) (row .answer) (firstOf rows otherwise) (each .0) accepted .1) k
+
+-- the answer of a table whose rows were all passed over is the one behind it
+pub answer-behind : (rows : List (Row Answer)) (otherwise : Answer) → ((k : ℕ) → test rows k ≡ false) → firstOf rows otherwise ≡ otherwise
+answer-behind [] otherwise passed = refl
+answer-behind (row ∷ rows) otherwise passed =
+    ap (λ (held : Bool). cond held (row .answer) (firstOf rows otherwise)) (passed 0) ∙ answer-behind rows otherwise (λ k. passed (suc k))
+
+-- ---- tests
+
+-- where neither of two tests holds
+neither : (a b : Bool) → (a || b) ≡ false → (a ≡ false) × (b ≡ false)
+neither true b e = absurd (true≢false e)
+neither false b e = (refl, e)
+
+-- where a second test does not hold though the first does
+not-second : (a b : Bool) → (a && b) ≡ false → a ≡ true → b ≡ false
+not-second true b e held = e
+not-second false b e held = absurd (false≢true held)
+
+-- ids that name the same counter are the same
+pub same-id : (a b : CounterId) → sameId a b ≡ true → a ≡ b
+same-id a b e = ap counterId (eqb-true (a .0) (b .0) e)
+
+-- a lowest place that is 0
+pub none-lowest : (place : ℕ) → not (eqb place 0) ≡ false → place ≡ 0
+none-lowest place e = eqb-true place 0 (not-false (eqb place 0) e)
+
+-- ---- the rows
+
+-- 1
+pub wanted-some : (id : CounterId) (nonce : List ℕ) → badWanted id nonce ≡ false → (id .0 ≡ 0 → ⊥) × (length nonce ≡ nonceLen)
+unfolding badWanted
+wanted-some id nonce e =
+    let each = neither (eqb (id .0) 0) (not (eqb (length nonce) nonceLen)) e in
+    (eqb-false (id .0) 0 (each .0), eqb-true (length nonce) nonceLen (not-false (eqb (length nonce) nonceLen) (each .1)))
+
+-- each of the verdicts that are 0 or 1
+zero-or-one-low : (verdicts : List ℕ) → zeroOrOne verdicts ≡ true → (k : ℕ) → getD verdicts k 0 ≤ 1
+unfolding zeroOrOne
+zero-or-one-low [] e k = omega arith
+zero-or-one-low (b ∷ verdicts) e zero = leb-true b 1 (both (leb b 1) (zeroOrOne verdicts) e .0)
+zero-or-one-low (b ∷ verdicts) e (suc k) = zero-or-one-low verdicts (both (leb b 1) (zeroOrOne verdicts) e .1) k
+
+-- 6
+pub verdicts-right : (p : Proof) (verdicts : List ℕ) → badVerdicts p verdicts ≡ false
+    → (length verdicts ≡ verdictCount p) × ((k : ℕ) → getD verdicts k 0 ≤ 1)
+unfolding badVerdicts
+verdicts-right p verdicts e =
+    let each = neither (not (eqb (length verdicts) (verdictCount p))) (not (zeroOrOne verdicts)) e in (
+      eqb-true (length verdicts) (verdictCount p) (not-false (eqb (length verdicts) (verdictCount p)) (each .0)),
+      zero-or-one-low verdicts (not-false (zeroOrOne verdicts) (each .1)),
+    )
+
+-- 7
+pub confirmation-right : (k : Confirmation) (id : CounterId) → badConfirmation k id ≡ false → (k .id ≡ id) × (k .value ≤ k .reading .0)
+unfolding badConfirmation
+confirmation-right k id e =
+    let each = neither (not (sameId (k .id) id)) (ltb (k .reading .0) (k .value)) e in
+    (same-id (k .id) id (not-false (sameId (k .id) id) (each .0)), ltb-false (k .reading .0) (k .value) (each .1))
+
+-- 8: a verdict that is 0 or 1, and not no
+pub said-yes : (verdict : ℕ) → verdict ≤ 1 → isNo verdict ≡ false → verdict ≡ 1
+said-yes verdict low e = omega (arith, eqb-false verdict 0 e)
+
+-- 9, of the clock certificate
+pub certificate-said : (kind : Kind) (verdicts : List ℕ) → certificateDenied kind verdicts ≡ false → kind ≡ Kind.Read → isNo (getD verdicts 1 0) ≡ false
+unfolding certificateDenied
+certificate-said kind verdicts e read = subst (λ (k : Kind). certificateDenied k verdicts ≡ false) read e
+
+-- 9, of the entries
+pub module-said : (verdicts : List ℕ) (before n : ℕ) → Clear (moduleDenied verdicts before) n
+    → (k : ℕ) → 1 ≤ k → k ≤ n → isNo (moduleVerdict verdicts before k) ≡ false
+unfolding moduleDenied
+module-said verdicts before n clear = clear
+
+-- a nonce of twenty bytes, read as such
+nonce-whole : (nonce : List ℕ) → length nonce ≡ nonceLen → window nonce 0 nonceLen ≡ nonce
+nonce-whole nonce long = window-part nonce 0 nonceLen (omega arith) ∙ take-all nonceLen nonce (omega arith)
+
+-- a nonce that compares as the wanted one is it
+same-nonce : (own nonce : List ℕ) → length nonce ≡ nonceLen → not (same own (window nonce 0 nonceLen)) ≡ false → own ≡ nonce
+same-nonce own nonce long e = same-equal own (window nonce 0 nonceLen) (not-false (same own (window nonce 0 nonceLen)) e) ∙ nonce-whole nonce long
+
+module _ (kind : Kind) (n : ℕ) (s : List ℕ) (id : CounterId) (nonce : List ℕ) (long : length nonce ≡ nonceLen)
+    (e : closesElsewhere (record { kind = kind; count = n }) s id nonce ≡ false) where
+  -- 10, in kind 1
+  pub certificate-closes : kind ≡ Kind.Read → certificate s .nonce ≡ nonce
+  unfolding closesElsewhere
+  certificate-closes read =
+      same-nonce (certificate s .nonce) nonce long
+      (subst (λ (k : Kind). closesElsewhere (record { kind = k; count = n }) s id nonce ≡ false) read e)
+
+  -- 10, in kind 2
+  pub last-closes : kind ≡ Kind.Increment → (entry s (logOffset kind) n .id ≡ id) × (entry s (logOffset kind) n .nonce ≡ nonce)
+  unfolding closesElsewhere
+  last-closes increment =
+      subst (λ (k : Kind). (entry s (logOffset k) n .id ≡ id) × (entry s (logOffset k) n .nonce ≡ nonce)) (sym increment)
+      (let last = entry s (logOffset Kind.Increment) n in
+      let each = neither (not (sameId (last .id) id)) (not (same (last .nonce) (window nonce 0 nonceLen)))
+      (subst (λ (k : Kind). closesElsewhere (record { kind = k; count = n }) s id nonce ≡ false) increment e)
+      in
+      (same-id (last .id) id (not-false (sameId (last .id) id) (each .0)), same-nonce (last .nonce) nonce long (each .1)))
+
+-- 11
+pub readings-right : (s : List ℕ) (log : ℕ) (start : GlobalClock) (n : ℕ) → Clear (wrongReading s log start) n
+    → (k : ℕ) → 1 ≤ k → k ≤ n → entry s log k .reading ≡ globalClock (start .0 + k)
+unfolding wrongReading
+readings-right s log start n clear k low high =
+    ap globalClock
+    (eqb-true (entry s log k .reading .0) (start .0 + k) (not-false (eqb (entry s log k .reading .0) (start .0 + k)) (clear k low high)))
+
+-- 4, in kind 2
+pub last-stands : (kind : Kind) (n : ℕ) → miscounted (record { kind = kind; count = n }) ≡ false → kind ≡ Kind.Increment → 1 ≤ n
+last-stands kind n e increment = count-some n (subst (λ (k : Kind). miscounted (record { kind = k; count = n }) ≡ false) increment e)
+
+-- 11, and the closing reading of both kinds
+pub closing-right : (kind : Kind) (n : ℕ) (s : List ℕ)
+    → wrongClosing (record { kind = kind; count = n }) s ≡ false
+    → (kind ≡ Kind.Increment → 1 ≤ n)
+    → ((k : ℕ) → 1 ≤ k → k ≤ n → entry s (logOffset kind) k .reading ≡ globalClock (confirmation s .reading .0 + k))
+    → closing (record { kind = kind; count = n }) s ≡ globalClock (confirmation s .reading .0 + n)
+unfolding wrongClosing closing
+closing-right Kind.Read n s e some readings =
+    ap globalClock
+    (eqb-true (certificate s .reading .0) (confirmation s .reading .0 + n)
+    (not-false (eqb (certificate s .reading .0) (confirmation s .reading .0 + n)) e))
+closing-right Kind.Increment n s e some readings = readings n (some refl) (omega arith)
+
+-- T of kind 1 and of kind 2
+pub closing-read : (kind : Kind) (n : ℕ) (s : List ℕ) → kind ≡ Kind.Read → closing (record { kind = kind; count = n }) s ≡ certificate s .reading
+unfolding closing
+closing-read kind n s read = ap (λ (k : Kind). closing (record { kind = k; count = n }) s) read
+
+-- 12
+pub owner-said : (s : List ℕ) (log : ℕ) (verdicts : List ℕ) (before : ℕ) (id : CounterId) (n : ℕ) → Clear (ownerDenied s log verdicts before id) n
+    → (k : ℕ) → 1 ≤ k → k ≤ n → entry s log k .id ≡ id → isNo (ownerVerdict verdicts before k) ≡ false
+unfolding ownerDenied
+owner-said s log verdicts before id n clear k low high own =
+    not-second (sameId (entry s log k .id) id) (isNo (ownerVerdict verdicts before k)) (clear k low high)
+    (eq-eqb (entry s log k .id .0) (id .0) (ap (λ (i : CounterId). i .0) own))
+
+-- 13
+pub chain-right : (s : List ℕ) (log : ℕ) (id : CounterId) (value n : ℕ) → Clear (breaksChain s log id value) n
+    → (k : ℕ) → 1 ≤ k → k ≤ n → follows id (valueBefore s log id value k) (entry s log k) ≡ true
+unfolding breaksChain
+chain-right s log id value n clear k low high = not-false (follows id (valueBefore s log id value k) (entry s log k)) (clear k low high)

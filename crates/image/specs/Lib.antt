@@ -1,0 +1,11 @@
+pub mod FrameLaws
+pub mod LogLaws
+pub mod LookupLaws
+pub mod OutcomeLaws
+pub mod Pass
+pub mod PassLaws
+pub mod RecordsLaws
+pub mod Sound
+pub mod SoundLaws
+pub mod State
+pub mod ZeroLaws
