@@ -1,0 +1,235 @@
+-- The host's calls: document 01, "The host". Each is a row of refusals in the order of its numbers, a value and the state after it; on
+-- refusal the image stays as it was. Assumes nothing.
+use Prim.Native.Nat.{ℕ, _+_, _-_, _*_, min}
+use mathlib.Core.Bool.{Bool, true, false, not, cond, _&&_, _||_}
+use mathlib.Core.List.{List, [], _∷_, _++_}
+use lib.Dec.{eqb, ltb}
+use lib.ListN.{length, take, drop}
+use Rattle.forms.specs.Chain.{valueAfter}
+use Rattle.forms.specs.Checks.{Row, _gives_, firstOf}
+use Rattle.forms.specs.Entry.{entryOf, logBytes}
+use Rattle.forms.specs.Limits.{nonceLen, imageLen, maxCounters, maxEntries}
+use Rattle.forms.specs.Proof.{Fields, read, increment, shapeOf, proofLen}
+use Rattle.forms.specs.Terms.{counterId, globalClock, sameId}
+use Rattle.forms.specs.declared.confirmation.Confirmation.{Confirmation}
+use Rattle.forms.specs.declared.entry.Entry.{Entry}
+use Rattle.forms.specs.declared.event.Carried.{Carried}
+use Rattle.forms.specs.declared.terms.CounterId.{CounterId}
+use Rattle.forms.specs.declared.terms.GlobalClock.{GlobalClock}
+use Rattle.image.specs.State.{Record, State, decode, encode}
+use Rattle.image.specs.Sound.{holds, oldest, base, after, current, sound}
+pub use Rattle.host.specs.declared.answer.Figures.{Figures}
+
+-- the largest number of 32 bits: the clock's last reading, and where the count of proofs stops
+abbrev pub largest : ℕ
+largest = 4294967295
+
+-- ---- what a state says of a counter
+
+-- the record of a held counter
+unfoldable pub recordOf : List Record → CounterId → Record
+recordOf [] id = record { held = record { id = counterId 0; value = 0; reading = globalClock 0 } }
+recordOf (r ∷ rs) id = cond (sameId (r .held .id) id) r (recordOf rs id)
+
+abbrev pub heldOf : State → CounterId → Confirmation
+heldOf st id = recordOf (st .records) id .held
+
+-- its entries "after the box's held reading"; those of other counters are among them
+abbrev pub entriesOf : State → CounterId → List Entry
+entriesOf st id = after (base st) (heldOf st id .reading) (st .log)
+
+-- "The current value of a box is the end of that chain"
+abbrev pub currentOf : State → CounterId → ℕ
+currentOf st id = current (base st) (st .log) (recordOf (st .records) id)
+
+-- the value of a counter at a reading not below its held one
+abbrev pub valueAt : State → CounterId → GlobalClock → ℕ
+valueAt st id reading =
+    valueAfter id (heldOf st id .value) (take (reading .0 - heldOf st id .reading .0) (entriesOf st id))
+
+-- an entry of the counter with the reading t is among some entries
+unfoldable pub hasEntry : CounterId → GlobalClock → List Entry → Bool
+hasEntry id t [] = false
+hasEntry id t (e ∷ es) = (sameId (e .id) id && eqb (e .reading .0) (t .0)) || hasEntry id t es
+
+-- ---- refusals, in number order; 0 where there is none
+
+abbrev pub badNonce : List ℕ → Bool
+badNonce nonce = not (eqb (length nonce) nonceLen)
+
+abbrev pub openRefusal : State → Confirmation → ℕ → ℕ
+openRefusal st c verdict =
+    firstOf
+    ((not (eqb verdict 1) gives 15)
+    ∷ ((eqb (c .id .0) 0 || ltb (c .reading .0) (c .value)) gives 16)
+    ∷ (holds (st .records) (c .id) gives 18)
+    ∷ (eqb (length (st .records)) maxCounters gives 19)
+    ∷ (ltb (c .reading .0) (st .clock .0 - length (st .log)) gives 20)
+    ∷ ((ltb (st .clock .0) (c .reading .0) || not (eqb (c .value) (c .reading .0))) gives 21)
+    ∷ [])
+    0
+
+abbrev pub tickRefusal : State → List ℕ → ℕ
+tickRefusal st nonce =
+    firstOf
+    ((badNonce nonce gives 16)
+    ∷ (eqb (length (st .log)) maxEntries gives 24)
+    ∷ (eqb (st .clock .0) largest gives 25)
+    ∷ [])
+    0
+
+abbrev pub incrementRefusal : State → List ℕ → CounterId → ℕ → ℕ → ℕ
+incrementRefusal st nonce id before verdict =
+    firstOf
+    ((not (eqb verdict 1) gives 15)
+    ∷ ((eqb (id .0) 0 || badNonce nonce) gives 16)
+    ∷ (not (holds (st .records) id) gives 17)
+    ∷ (not (eqb before (currentOf st id)) gives 22)
+    ∷ (eqb (length (st .log)) maxEntries gives 24)
+    ∷ (eqb (st .clock .0) largest gives 25)
+    ∷ [])
+    0
+
+abbrev pub readRefusal : State → CounterId → ℕ
+readRefusal st id = firstOf ((eqb (id .0) 0 gives 16) ∷ (not (holds (st .records) id) gives 17) ∷ []) 0
+
+abbrev pub proveRefusal : State → List ℕ → CounterId → ℕ → ℕ → ℕ
+proveRefusal st nonce id len room =
+    firstOf
+    (((eqb (id .0) 0 || badNonce nonce) gives 16)
+    ∷ (not (holds (st .records) id) gives 17)
+    ∷ (ltb room len gives 26)
+    ∷ [])
+    0
+
+abbrev pub lastRefusal : State → CounterId → GlobalClock → ℕ → ℕ → ℕ
+lastRefusal st id t len room =
+    firstOf
+    ((eqb (id .0) 0 gives 16)
+    ∷ (not (holds (st .records) id) gives 17)
+    ∷ (not (hasEntry id t (entriesOf st id)) gives 23)
+    ∷ (ltb room len gives 26)
+    ∷ [])
+    0
+
+abbrev pub confirmRefusal : State → Confirmation → ℕ → ℕ
+confirmRefusal st c verdict =
+    firstOf
+    ((not (eqb verdict 1) gives 15)
+    ∷ ((eqb (c .id .0) 0 || ltb (c .reading .0) (c .value)) gives 16)
+    ∷ (not (holds (st .records) (c .id)) gives 17)
+    ∷ (ltb (c .reading .0) (heldOf st (c .id) .reading .0) gives 20)
+    ∷ ((ltb (st .clock .0) (c .reading .0) || not (eqb (c .value) (valueAt st (c .id) (c .reading)))) gives 21)
+    ∷ [])
+    0
+
+-- ---- effects
+
+-- "start writes an image with a given clock, no boxes"
+abbrev pub started : GlobalClock → State
+started clock = record { clock = clock; records = []; log = []; written = 0 }
+
+abbrev pub opened : State → Confirmation → State
+opened st c = record { clock = st .clock; records = st .records ++ (record { held = c } ∷ []); log = st .log; written = st .written }
+
+-- an increment: "Clock + 1 and the new entry are stored"
+abbrev pub raised : State → Carried → List ℕ → State
+raised st carried nonce =
+    let next : GlobalClock = globalClock (st .clock .0 + 1) in
+    record { clock = next; records = st .records; log = st .log ++ (entryOf next carried nonce ∷ []); written = st .written }
+
+-- "A tick with no box held keeps no entry"
+abbrev pub noneHeld : State → Bool
+noneHeld st = eqb (length (st .records)) 0
+
+abbrev pub ticked : State → List ℕ → State
+ticked st nonce =
+    cond (noneHeld st) (record { clock = globalClock (st .clock .0 + 1); records = st .records; log = st .log; written = st .written })
+    (raised st Carried.Tick nonce)
+
+-- prove and last "add 1 to proofs written", which "stops at 4,294,967,295"
+abbrev pub counted : State → State
+counted st = record { clock = st .clock; records = st .records; log = st .log; written = min (st .written + 1) largest }
+
+-- "confirm replaces the box's confirmation, then drops entries no longer needed"
+unfoldable pub replaced : List Record → Confirmation → List Record
+replaced [] c = []
+replaced (r ∷ rs) c = cond (sameId (r .held .id) (c .id)) (record { held = c } ∷ rs) (r ∷ replaced rs c)
+
+abbrev pub confirmedState : State → Confirmation → State
+confirmedState st c =
+    let rs : List Record = replaced (st .records) c in
+    record { clock = st .clock; records = rs; log = drop (oldest (st .clock) rs - base st) (st .log); written = st .written }
+
+-- ---- the proofs set out
+
+-- "prove writes a kind 1 proof up to the clock", from the counter's held reading on
+abbrev pub proofOf : State → List ℕ → CounterId → Fields
+proofOf st nonce id =
+    read (heldOf st id) (record { reading = st .clock; nonce = nonce }) (length (entriesOf st id)) (logBytes (entriesOf st id))
+
+-- "last writes kind 2 up to a given t"
+abbrev pub lastEntries : State → CounterId → GlobalClock → List Entry
+lastEntries st id t = take (t .0 - heldOf st id .reading .0) (entriesOf st id)
+
+abbrev pub lastOf : State → CounterId → GlobalClock → Fields
+lastOf st id t = increment (heldOf st id) (length (lastEntries st id t)) (logBytes (lastEntries st id t))
+
+-- ---- a call on an image
+
+-- what a call answers, and the image after it
+pub record Settled : Type 0 where
+  pub figures : Figures
+  pub image : List ℕ
+
+-- 14 where the image is not sound; else the refusal; else the value and the new state's image
+unfoldable pub settled : List ℕ → ℕ → ℕ → State → Settled
+settled s number value next =
+    cond (sound s)
+    (cond (eqb number 0)
+    (record { figures = record { number = 0; value = value }; image = encode next })
+    (record { figures = record { number = number; value = 0 }; image = s }))
+    (record { figures = record { number = 14; value = 0 }; image = s })
+
+unfoldable pub startCall : List ℕ → GlobalClock → Settled
+startCall s clock =
+    cond (eqb (length s) imageLen)
+    (record { figures = record { number = 0; value = clock .0 }; image = encode (started clock) })
+    (record { figures = record { number = 14; value = 0 }; image = s })
+
+abbrev pub openCall : List ℕ → Confirmation → ℕ → Settled
+openCall s c verdict =
+    let st : State = decode s in
+    settled s (openRefusal st c verdict) (length (st .records) + 1) (opened st c)
+
+abbrev pub tickCall : List ℕ → List ℕ → Settled
+tickCall s nonce =
+    let st : State = decode s in
+    settled s (tickRefusal st nonce) (st .clock .0 + 1) (ticked st nonce)
+
+abbrev pub incrementCall : List ℕ → List ℕ → CounterId → ℕ → ℕ → Settled
+incrementCall s nonce id before verdict =
+    let st : State = decode s in
+    settled s (incrementRefusal st nonce id before verdict) (st .clock .0 + 1) (raised st (Carried.Request id before) nonce)
+
+abbrev pub readCall : List ℕ → CounterId → Settled
+readCall s id =
+    let st : State = decode s in
+    settled s (readRefusal st id) (currentOf st id) st
+
+abbrev pub proveCall : List ℕ → List ℕ → CounterId → ℕ → Settled
+proveCall s nonce id room =
+    let st : State = decode s in
+    let len : ℕ = proofLen (shapeOf (proofOf st nonce id)) in
+    settled s (proveRefusal st nonce id len room) len (counted st)
+
+abbrev pub lastCall : List ℕ → CounterId → GlobalClock → ℕ → Settled
+lastCall s id t room =
+    let st : State = decode s in
+    let len : ℕ = proofLen (shapeOf (lastOf st id t)) in
+    settled s (lastRefusal st id t len room) len (counted st)
+
+abbrev pub confirmCall : List ℕ → Confirmation → ℕ → Settled
+confirmCall s c verdict =
+    let st : State = decode s in
+    settled s (confirmRefusal st c verdict) (length (confirmedState st c .log)) (confirmedState st c)

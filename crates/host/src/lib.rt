@@ -1,0 +1,2 @@
+// The host: keeps the log image. Document 01, "The host".
+pub mod answer;
