@@ -1,4 +1,5 @@
 pub mod Answer
+pub mod Cases
 pub mod Desk
 pub mod DeskLaws
 pub mod Lowest

@@ -57,71 +57,81 @@ hasEntry id t (e ∷ es) = (sameId (e .id) id && eqb (e .reading .0) (t .0)) || 
 abbrev pub badNonce : List ℕ → Bool
 badNonce nonce = not (eqb (length nonce) nonceLen)
 
-abbrev pub openRefusal : State → Confirmation → ℕ → ℕ
-openRefusal st c verdict =
-    firstOf
-    ((not (eqb verdict 1) gives 15)
+abbrev pub openRows : State → Confirmation → ℕ → List (Row ℕ)
+openRows st c verdict =
+    (not (eqb verdict 1) gives 15)
     ∷ ((eqb (c .id .0) 0 || ltb (c .reading .0) (c .value)) gives 16)
     ∷ (holds (st .records) (c .id) gives 18)
     ∷ (eqb (length (st .records)) maxCounters gives 19)
     ∷ (ltb (c .reading .0) (st .clock .0 - length (st .log)) gives 20)
     ∷ ((ltb (st .clock .0) (c .reading .0) || not (eqb (c .value) (c .reading .0))) gives 21)
-    ∷ [])
-    0
+    ∷ []
 
-abbrev pub tickRefusal : State → List ℕ → ℕ
-tickRefusal st nonce =
-    firstOf
-    ((badNonce nonce gives 16)
+abbrev pub openRefusal : State → Confirmation → ℕ → ℕ
+openRefusal st c verdict = firstOf (openRows st c verdict) 0
+
+abbrev pub tickRows : State → List ℕ → List (Row ℕ)
+tickRows st nonce =
+    (badNonce nonce gives 16)
     ∷ (eqb (length (st .log)) maxEntries gives 24)
     ∷ (eqb (st .clock .0) largest gives 25)
-    ∷ [])
-    0
+    ∷ []
 
-abbrev pub incrementRefusal : State → List ℕ → CounterId → ℕ → ℕ → ℕ
-incrementRefusal st nonce id before verdict =
-    firstOf
-    ((not (eqb verdict 1) gives 15)
+abbrev pub tickRefusal : State → List ℕ → ℕ
+tickRefusal st nonce = firstOf (tickRows st nonce) 0
+
+abbrev pub incrementRows : State → List ℕ → CounterId → ℕ → ℕ → List (Row ℕ)
+incrementRows st nonce id before verdict =
+    (not (eqb verdict 1) gives 15)
     ∷ ((eqb (id .0) 0 || badNonce nonce) gives 16)
     ∷ (not (holds (st .records) id) gives 17)
     ∷ (not (eqb before (currentOf st id)) gives 22)
     ∷ (eqb (length (st .log)) maxEntries gives 24)
     ∷ (eqb (st .clock .0) largest gives 25)
-    ∷ [])
-    0
+    ∷ []
+
+abbrev pub incrementRefusal : State → List ℕ → CounterId → ℕ → ℕ → ℕ
+incrementRefusal st nonce id before verdict = firstOf (incrementRows st nonce id before verdict) 0
+
+abbrev pub readRows : State → CounterId → List (Row ℕ)
+readRows st id =
+    (eqb (id .0) 0 gives 16) ∷ (not (holds (st .records) id) gives 17) ∷ []
 
 abbrev pub readRefusal : State → CounterId → ℕ
-readRefusal st id = firstOf ((eqb (id .0) 0 gives 16) ∷ (not (holds (st .records) id) gives 17) ∷ []) 0
+readRefusal st id = firstOf (readRows st id) 0
 
-abbrev pub proveRefusal : State → List ℕ → CounterId → ℕ → ℕ → ℕ
-proveRefusal st nonce id len room =
-    firstOf
-    (((eqb (id .0) 0 || badNonce nonce) gives 16)
+abbrev pub proveRows : State → List ℕ → CounterId → ℕ → ℕ → List (Row ℕ)
+proveRows st nonce id len room =
+    ((eqb (id .0) 0 || badNonce nonce) gives 16)
     ∷ (not (holds (st .records) id) gives 17)
     ∷ (ltb room len gives 26)
-    ∷ [])
-    0
+    ∷ []
 
-abbrev pub lastRefusal : State → CounterId → GlobalClock → ℕ → ℕ → ℕ
-lastRefusal st id t len room =
-    firstOf
-    ((eqb (id .0) 0 gives 16)
+abbrev pub proveRefusal : State → List ℕ → CounterId → ℕ → ℕ → ℕ
+proveRefusal st nonce id len room = firstOf (proveRows st nonce id len room) 0
+
+abbrev pub lastRows : State → CounterId → GlobalClock → ℕ → ℕ → List (Row ℕ)
+lastRows st id t len room =
+    (eqb (id .0) 0 gives 16)
     ∷ (not (holds (st .records) id) gives 17)
     ∷ (not (hasEntry id t (entriesOf st id)) gives 23)
     ∷ (ltb room len gives 26)
-    ∷ [])
-    0
+    ∷ []
 
-abbrev pub confirmRefusal : State → Confirmation → ℕ → ℕ
-confirmRefusal st c verdict =
-    firstOf
-    ((not (eqb verdict 1) gives 15)
+abbrev pub lastRefusal : State → CounterId → GlobalClock → ℕ → ℕ → ℕ
+lastRefusal st id t len room = firstOf (lastRows st id t len room) 0
+
+abbrev pub confirmRows : State → Confirmation → ℕ → List (Row ℕ)
+confirmRows st c verdict =
+    (not (eqb verdict 1) gives 15)
     ∷ ((eqb (c .id .0) 0 || ltb (c .reading .0) (c .value)) gives 16)
     ∷ (not (holds (st .records) (c .id)) gives 17)
     ∷ (ltb (c .reading .0) (heldOf st (c .id) .reading .0) gives 20)
     ∷ ((ltb (st .clock .0) (c .reading .0) || not (eqb (c .value) (valueAt st (c .id) (c .reading)))) gives 21)
-    ∷ [])
-    0
+    ∷ []
+
+abbrev pub confirmRefusal : State → Confirmation → ℕ → ℕ
+confirmRefusal st c verdict = firstOf (confirmRows st c verdict) 0
 
 -- ---- effects
 

@@ -1,1 +1,13 @@
+pub mod ConfirmLaws
+pub mod DecodeLaws
+pub mod EachRecordLaws
+pub mod HeldLaws
 pub mod Host
+pub mod IndexLaws
+pub mod LogEndsLaws
+pub mod OpenLaws
+pub mod RaiseLaws
+pub mod RefusalLaws
+pub mod SettledLaws
+pub mod SoundParts
+pub mod ValueLaws

@@ -1,4 +1,7 @@
+pub mod FitLaws
 pub mod FrameLaws
+pub mod ImageParts
+pub mod ImageRoundTrip
 pub mod LogLaws
 pub mod LookupLaws
 pub mod OutcomeLaws
@@ -8,4 +11,5 @@ pub mod RecordsLaws
 pub mod Sound
 pub mod SoundLaws
 pub mod State
+pub mod StoreLaws
 pub mod ZeroLaws

@@ -2,5 +2,5 @@
 // is one pass over the bytes as they are lent.
 pub mod header;
 mod log;
-mod records;
+pub mod records;
 pub mod soundness;

@@ -1,0 +1,257 @@
+/*
+ * The proved desk beside the plain one: first that both give the same four figures, then how long each takes.
+ *
+ * Exits with 1 where any figure differs, or where a check that the desk has was never met, so that the comparison would be hollow.
+ */
+#define _POSIX_C_SOURCE 200809L
+#include "desk_plain.h"
+
+#include <stdbool.h>
+#include <stdio.h>
+#include <stdlib.h>
+#include <string.h>
+#include <time.h>
+
+enum { CASES = 200000, ROUNDS = 300, CALLS = 40, IMPLEMENTATIONS = 3, NUMBERS = 14 };
+/* Room to lend a proof or a verdict list longer than it should be. */
+enum { SLACK = 64 };
+
+typedef vmc_desk_figures verify_function(const uint8_t *, size_t, const uint8_t *, size_t, uint32_t, const uint8_t *, size_t);
+
+static verify_function *const implementations[IMPLEMENTATIONS] = {vmc_desk_verify, plain_desk_verify, plain_desk_verify_once};
+static const char *const names[IMPLEMENTATIONS] = {"vmc_desk_verify", "C, loop after loop", "C, one loop"};
+
+/* All that one call of the desk is handed. */
+struct question {
+    uint8_t proof[VMC_PROOF_MAX_LEN + SLACK];
+    size_t proof_len;
+    uint8_t verdicts[2 + 2 * VMC_PROOF_MAX_ENTRIES + SLACK];
+    size_t verdicts_len;
+    uint32_t id;
+    uint8_t nonce[VMC_NONCE_LEN + SLACK];
+    size_t nonce_len;
+};
+
+static vmc_desk_figures ask(verify_function *verify, const struct question *q)
+{
+    return verify(q->proof, q->proof_len, q->verdicts, q->verdicts_len, q->id, q->nonce, q->nonce_len);
+}
+
+/* xorshift64*, with a fixed seed: every run has the same cases. */
+static uint64_t seed = 0x9e3779b97f4a7c15u;
+
+static uint32_t below(uint32_t limit)
+{
+    seed ^= seed >> 12;
+    seed ^= seed << 25;
+    seed ^= seed >> 27;
+    return (uint32_t)((seed * 0x2545f4914f6cdd1du >> 32) * limit >> 32);
+}
+
+static uint8_t *put(uint8_t *at, uint32_t x, int bytes)
+{
+    for (int shift = 8 * (bytes - 1); shift >= 0; shift -= 8)
+        *at++ = (uint8_t)(x >> shift);
+    return at;
+}
+
+static uint8_t *put_nonce(uint8_t *at, uint8_t b)
+{
+    memset(at, b, VMC_NONCE_LEN);
+    return at + VMC_NONCE_LEN;
+}
+
+/* A question that the desk accepts, unless g + n is too large for a reading: a proof of n entries after reading g, of which one in
+ * `every` is the wanted counter's, at random or in turn. In kind 2 the last one always is. */
+static void build(struct question *q, uint32_t kind, uint32_t id, uint32_t value, uint32_t g, uint32_t n, uint32_t every, bool in_turn)
+{
+    uint32_t log = kind == 1 ? 60 : 36;
+    uint8_t *at = q->proof;
+    uint32_t running = value;
+
+    at = put(at, 1, 2);
+    at = put(at, kind, 2);
+    at = put(at, log + 32 * n, 4);
+    at = put(at, 24, 4);
+    at = put(at, kind == 1 ? 36 : 0, 4);
+    at = put(at, log, 4);
+    at = put(at, n, 4);
+    at = put(at, id, 4);
+    at = put(at, value, 4);
+    at = put(at, g, 4);
+    if (kind == 1) {
+        at = put(at, g + n, 4);
+        at = put_nonce(at, 200);
+    }
+    for (uint32_t i = 1; i <= n; i++) {
+        bool wanted = (in_turn ? i % every : below(every)) == 0 || (kind == 2 && i == n);
+        bool last = kind == 2 && i == n;
+        uint32_t other = below(4);
+        at = put(at, g + i, 4);
+        at = put_nonce(at, last ? 200 : (uint8_t)below(200));
+        at = put(at, wanted ? id : other == 0 ? 0 : id + other, 4);
+        at = put(at, wanted ? running : other == 0 ? 0 : below(UINT32_MAX), 4);
+        if (wanted)
+            running = g + i;
+    }
+    q->proof_len = (size_t)(at - q->proof);
+    q->verdicts_len = (kind == 1 ? 2 : 1) + 2 * n;
+    memset(q->verdicts, 1, q->verdicts_len);
+    q->id = id;
+    q->nonce_len = VMC_NONCE_LEN;
+    put_nonce(q->nonce, 200);
+}
+
+static size_t other_length(size_t len)
+{
+    return below(2) == 0 ? below((uint32_t)len + 1) : len + 1 + below(SLACK - 1);
+}
+
+/* One random change; any of them may happen to change nothing. */
+static void damage(struct question *q)
+{
+    switch (below(10)) {
+    case 0: /* the header, the confirmation and the clock certificate get as many changes as all the rest */
+        if (q->proof_len > 0)
+            q->proof[below(q->proof_len < 60 ? (uint32_t)q->proof_len : 60)] = (uint8_t)below(256);
+        break;
+    case 1:
+        if (q->proof_len > 0)
+            q->proof[below((uint32_t)q->proof_len)] = (uint8_t)below(256);
+        break;
+    case 2: /* the last byte of a field, so that the number is near the right one */
+        if (q->proof_len >= 4)
+            q->proof[4 * below((uint32_t)q->proof_len / 4) + 3] ^= (uint8_t)(1 + below(3));
+        break;
+    case 3:
+    case 4:
+        if (q->verdicts_len > 0)
+            q->verdicts[below((uint32_t)q->verdicts_len)] = 0;
+        break;
+    case 5:
+        if (q->verdicts_len > 0)
+            q->verdicts[below((uint32_t)q->verdicts_len)] = (uint8_t)below(256);
+        break;
+    case 6:
+        q->proof_len = other_length(q->proof_len);
+        break;
+    case 7:
+        q->verdicts_len = other_length(q->verdicts_len);
+        break;
+    case 8:
+        q->id = below(2) == 0 ? below(3) : q->id + 1;
+        break;
+    default:
+        if (below(2) == 0)
+            q->nonce[below(VMC_NONCE_LEN)] ^= (uint8_t)(1 + below(255));
+        else
+            q->nonce_len = other_length(q->nonce_len);
+    }
+}
+
+static bool same(vmc_desk_figures a, vmc_desk_figures b)
+{
+    return a.number == b.number && a.value == b.value && a.closing == b.closing && a.place == b.place;
+}
+
+/* Whether all implementations agree on all cases, and every number was met. */
+static bool compare(struct question *q)
+{
+    static const uint32_t most_entries[] = {3, 12, 12, VMC_PROOF_MAX_ENTRIES};
+    unsigned long met[NUMBERS] = {0};
+    unsigned long differing = 0;
+
+    /* Bytes that are lent beyond a proof's end are zero or left from an earlier case. */
+    memset(q, 0, sizeof *q);
+    for (int i = 0; i < CASES; i++) {
+        uint32_t kind = 1 + below(2);
+        /* One case in 64 is long. */
+        uint32_t n = kind - 1 + below(most_entries[below(64) == 0 ? 3 : below(3)]);
+        uint32_t g = below(8) == 0 ? UINT32_MAX - below(2 * n + 1) : below(UINT32_MAX);
+        uint32_t value = below(8) == 0 ? g : below(g);
+        uint32_t id = 1 + below(1000);
+        uint32_t every = 1 + below(3);
+        build(q, kind, id, value, g, n, every, false);
+        for (uint32_t changes = below(4); changes > 0; changes--)
+            damage(q);
+
+        vmc_desk_figures figures[IMPLEMENTATIONS];
+        for (int k = 0; k < IMPLEMENTATIONS; k++)
+            figures[k] = ask(implementations[k], q);
+        met[figures[0].number < NUMBERS ? figures[0].number : 0]++;
+        for (int k = 1; k < IMPLEMENTATIONS; k++) {
+            if (same(figures[0], figures[k]) || ++differing > 10)
+                continue;
+            printf("case %d differs: %s %u %u %u %u, %s %u %u %u %u\n", i, names[0], (unsigned)figures[0].number,
+                   (unsigned)figures[0].value, (unsigned)figures[0].closing, (unsigned)figures[0].place, names[k],
+                   (unsigned)figures[k].number, (unsigned)figures[k].value, (unsigned)figures[k].closing, (unsigned)figures[k].place);
+        }
+    }
+
+    printf("%d cases compared, %lu differences. Cases by number:", CASES, differing);
+    bool all_met = true;
+    for (int number = 0; number < NUMBERS; number++) {
+        printf(" %d:%lu", number, met[number]);
+        all_met = all_met && met[number] > 0;
+    }
+    printf("\n");
+    if (!all_met)
+        printf("error: a number was never met\n");
+    return differing == 0 && all_met;
+}
+
+static double now_ns(void)
+{
+    struct timespec t;
+    clock_gettime(CLOCK_MONOTONIC, &t);
+    return (double)t.tv_sec * 1e9 + (double)t.tv_nsec;
+}
+
+static int by_size(const void *a, const void *b)
+{
+    double x = *(const double *)a, y = *(const double *)b;
+    return (x > y) - (x < y);
+}
+
+/* Times all implementations on one question, in turn, round by round, so that a slow spell of the machine falls on all alike. */
+static void measure(const char *title, const struct question *q)
+{
+    static double times[IMPLEMENTATIONS][ROUNDS];
+    double median[IMPLEMENTATIONS], best_plain = 0;
+    volatile uint32_t sink = 0;
+
+    for (int round = 0; round < ROUNDS; round++) {
+        for (int turn = 0; turn < IMPLEMENTATIONS; turn++) {
+            int k = (round + turn) % IMPLEMENTATIONS;
+            double start = now_ns();
+            for (int call = 0; call < CALLS; call++)
+                sink += ask(implementations[k], q).value;
+            times[k][round] = (now_ns() - start) / CALLS;
+        }
+    }
+
+    (void)sink;
+    printf("%s: answer %u, value %u\n", title, (unsigned)ask(vmc_desk_verify, q).number, (unsigned)ask(vmc_desk_verify, q).value);
+    for (int k = 0; k < IMPLEMENTATIONS; k++) {
+        qsort(times[k], ROUNDS, sizeof times[k][0], by_size);
+        median[k] = times[k][ROUNDS / 2];
+        if (k > 0 && (best_plain == 0 || median[k] < best_plain))
+            best_plain = median[k];
+        printf("  %-20s %7.0f ns a proof (median of %d rounds; best %.0f)\n", names[k], median[k], ROUNDS, times[k][0]);
+    }
+    printf("  ratio: %.2f of C loop after loop, %.2f of the faster C\n", median[0] / median[1], median[0] / best_plain);
+}
+
+int main(void)
+{
+    static struct question q;
+
+    if (!compare(&q))
+        return 1;
+    printf("Times with warm buffers: the same proof is verified again and again.\n");
+    build(&q, 1, 7, 100, 100, VMC_PROOF_MAX_ENTRIES, 1, true);
+    measure("1,024 entries, all of the wanted counter", &q);
+    build(&q, 1, 7, 100, 100, VMC_PROOF_MAX_ENTRIES, 2, true);
+    measure("1,024 entries, every second of another counter", &q);
+    return 0;
+}

@@ -1,0 +1,51 @@
+// A case at the desk but for its log and its verdicts: what is written, what is then changed of it, and what is wanted.
+
+// A figure that is not given. As a number of bytes lent it stands for all, and as a place to change it is past the end of every proof.
+pub const NOT_GIVEN: u32 = 65536;
+
+pub const FIGURES: usize = 11;
+
+pub struct Case {
+    pub kind: u32,
+    // The confirmation's counter, value and reading.
+    pub confirmed: u32,
+    pub value: u32,
+    pub reading: u32,
+    // The clock certificate's reading.
+    pub certificate: u32,
+    // The wanted counter, and the wanted nonce: a byte, and how often it stands there.
+    pub id: u32,
+    pub nonce: u32,
+    pub nonce_len: u32,
+    // How many bytes are lent.
+    pub lent: u32,
+    // Where four bytes are changed, and the number that they become.
+    pub at: u32,
+    pub number: u32,
+}
+
+fn figure(figures: &[u32], i: usize) -> u32 {
+    if i < figures.len() {
+        figures[i]
+    } else {
+        NOT_GIVEN
+    }
+}
+
+impl Case {
+    pub fn of(figures: &[u32]) -> Self {
+        Case {
+            kind: figure(figures, 0),
+            confirmed: figure(figures, 1),
+            value: figure(figures, 2),
+            reading: figure(figures, 3),
+            certificate: figure(figures, 4),
+            id: figure(figures, 5),
+            nonce: figure(figures, 6),
+            nonce_len: figure(figures, 7),
+            lent: figure(figures, 8),
+            at: figure(figures, 9),
+            number: figure(figures, 10),
+        }
+    }
+}

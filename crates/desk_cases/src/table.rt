@@ -1,0 +1,99 @@
+// The cases as lines of text: the label and a colon; the figures of the case, in the order of `Case`, the last ones left out where they are
+// not given; the verdicts as digits in brackets; and for each entry of the log its reading, nonce byte, counter and value before.
+use crate::answer::case;
+use crate::case::Case;
+use crate::case::FIGURES;
+use crate::case::NOT_GIVEN;
+use crate::part::between;
+use crate::part::find;
+
+// Room for the figures of a log.
+const LOG_ROOM: usize = 64;
+
+const MODULUS: u64 = 4294967296;
+
+fn is_digit(byte: u8) -> bool {
+    if byte < b'0' {
+        return false;
+    }
+    byte <= b'9'
+}
+
+// A decimal number and one more digit, whose byte is 48 and the digit.
+fn with_digit(number: u32, digit: u8) -> u32 {
+    ((number as u64 * 10 + (digit % 16) as u64) % MODULUS) as u32
+}
+
+// Stores a figure as the last of so many, where there is room.
+fn put(figures: &mut [u32], count: usize, figure: u32) {
+    if count == 0 {
+        return;
+    }
+    if count <= figures.len() {
+        figures[count - 1] = figure;
+    }
+}
+
+// Stores the figures of a text, each behind a space, and answers how many there are.
+fn put_figures(text: &[u8], figures: &mut [u32]) -> usize {
+    let mut count: usize = 0;
+    let mut figure: u32 = 0;
+    let mut i: usize = 0;
+    while i < text.len() {
+        if is_digit(text[i]) {
+            figure = with_digit(figure, text[i]);
+            put(figures, count, figure);
+        } else {
+            figure = 0;
+            count += 1;
+        }
+        i += 1;
+    }
+    count
+}
+
+fn front(figures: &[u32], count: usize) -> &[u32] {
+    if count < figures.len() {
+        &figures[0..count]
+    } else {
+        figures
+    }
+}
+
+fn read(
+    label: &[u8],
+    head: &[u8],
+    digits: &[u8],
+    log: &[u8],
+    figures: &mut [u32],
+    entries: &mut [u32],
+) {
+    put_figures(head, figures);
+    let count = put_figures(log, entries);
+    case(label, Case::of(figures), front(entries, count), digits);
+}
+
+fn row(line: &[u8]) {
+    let colon = find(line, 0, b':');
+    let open = find(line, colon, b'[');
+    let close = find(line, open, b']');
+    let mut figures = [NOT_GIVEN; FIGURES];
+    let mut entries = [0u32; LOG_ROOM];
+    read(
+        between(line, 0, colon),
+        between(line, colon + 1, open),
+        between(line, open + 1, close),
+        between(line, close + 1, line.len()),
+        &mut figures,
+        &mut entries,
+    );
+}
+
+pub fn run(text: &[u8]) {
+    let mut from: usize = 0;
+    while from < text.len() {
+        let end = find(text, from, b'\n');
+        row(between(text, from, end));
+        from = end + 1;
+    }
+}

@@ -1,0 +1,60 @@
+-- confirm keeps the state sound: the confirmation's reading is not below the held one and its value is the counter's there, and the
+-- entries dropped are at or below every reading still held. Assumes nothing.
+use mathlib.Core.Path.{_≡_, ap, subst, _∙_}
+use Prim.Native.Nat.{ℕ, _-_, _≤_}
+use native.Mathlib.Omega.{arith}
+use mathlib.Core.Bool.{true}
+use mathlib.Core.List.{List}
+use lib.ListN.{drop, length-drop}
+use Rattle.forms.specs.Chain.{chains}
+use Rattle.forms.specs.declared.confirmation.Confirmation.{Confirmation}
+use Rattle.forms.specs.declared.entry.Entry.{Entry}
+use Rattle.image.specs.State.{Record, State}
+use Rattle.image.specs.Sound.{oldest, base, consecutive, after, soundState}
+use Rattle.image.specs.RecordsLaws.{oldest-clock}
+use Rattle.host.specs.Host.{replaced, confirmedState, confirmRefusal}
+use Rattle.host.specs.HeldLaws.{later-chains}
+use Rattle.host.specs.LogEndsLaws.{consecutive-drop, named-drop, named-wider, after-cut}
+use Rattle.host.specs.EachRecordLaws.{Each, each-map, each-both, each-oldest, each-replaced, holds-replaced, distinct-replaced, oldest-replaced}
+use Rattle.host.specs.RefusalLaws.{ConfirmPassed, confirm-passed}
+use Rattle.host.specs.SoundParts.{Chained, SoundState, sound-parts, sound-whole}
+
+-- ---- the cut
+
+-- records whose readings are not below a later base keep their chains when the entries up to it are dropped
+each-cut : (low next : ℕ) (log : List Entry) {rs : List Record} → low ≤ next → Each (λ r. next ≤ r .held .reading .0) rs → Each (Chained low log) rs
+    → Each (Chained next (drop (next - low) log)) rs
+each-cut low next log up readings chain =
+    each-map
+    (λ (r : Record) (h : (next ≤ r .held .reading .0) × Chained low log r). ap (chains (r .held .id) (r .held .value)) (after-cut low next (r .held .reading) log up (h .0)) ∙ h .1)
+    (each-both readings chain)
+
+-- ---- the confirmation
+
+confirmed-parts : (st : State) (c : Confirmation) (verdict : ℕ) → SoundState st → ConfirmPassed st c verdict → SoundState (confirmedState st c)
+confirmed-parts st c verdict s p =
+    record {
+      differ = distinct-replaced (st .records) c ∙ s .differ;
+      bounds = each-replaced c (s .bounds) (record { low = p .low; past = p .past });
+      span = omega (arith, up, s .span, oldest-clock (st .clock) (replaced (st .records) c), length-drop (next - base st) (st .log));
+      steps = subst (λ (b : ℕ). consecutive b (drop (next - base st) (st .log)) ≡ true) (omega (arith, up))
+          (consecutive-drop (base st) (next - base st) (st .log) (s .steps));
+      names = named-wider (st .records) (replaced (st .records) c) (drop (next - base st) (st .log)) (λ id held. holds-replaced (st .records) c id ∙ held)
+          (named-drop (st .records) (next - base st) (st .log) (s .names));
+      chain = each-cut (base st) next (st .log) up (each-oldest (st .clock) (replaced (st .records) c)) (each-replaced c (s .chain) own);
+    }
+  where
+    next : ℕ
+    next = oldest (st .clock) (replaced (st .records) c)
+
+    up : base st ≤ next
+    up = oldest-replaced (st .clock) (st .records) c (p .later)
+
+    own : chains (c .id) (c .value) (after (base st) (c .reading) (st .log)) ≡ true
+    own = ap (λ (v : ℕ). chains (c .id) v (after (base st) (c .reading) (st .log))) (p .value) ∙ later-chains st (c .id) (c .reading) s (p .held) (p .later)
+
+-- a confirmation taken keeps the state sound
+pub confirmed-sound : (st : State) (c : Confirmation) (verdict : ℕ) → soundState st ≡ true → confirmRefusal st c verdict ≡ 0
+    → soundState (confirmedState st c) ≡ true
+confirmed-sound st c verdict sound accepted =
+    sound-whole (confirmedState st c) (confirmed-parts st c verdict (sound-parts st sound) (confirm-passed st c verdict accepted))

@@ -1,0 +1,128 @@
+-- What a call that is not refused has passed: number 0 means that no row's test holds. One record of it for each call that changes the
+-- clock, the records or the log. Assumes nothing.
+use mathlib.Core.Path.{_≡_, refl, sym, ap, _∙_}
+use Prim.Native.Nat.{ℕ, _-_, _≤_}
+use mathlib.Core.Bool.{Bool, true, false, not, cond, false≢true}
+use lib.Dec.{eqb, ltb}
+use mathlib.Core.List.{List}
+use lib.ListN.{length}
+use borrow.Author.Tests.{eqb-true, eqb-false, eq-eqb, ltb-false, not-false}
+use Rattle.forms.specs.Limits.{nonceLen, maxCounters, maxEntries}
+use Rattle.forms.specs.declared.confirmation.Confirmation.{Confirmation}
+use Rattle.forms.specs.declared.terms.CounterId.{CounterId}
+use Rattle.image.specs.State.{State}
+use Rattle.image.specs.Sound.{holds}
+use Rattle.image.specs.PassLaws.{or-left, or-right}
+use Rattle.host.specs.Host.{largest, heldOf, currentOf, valueAt, openRefusal, tickRefusal, incrementRefusal, confirmRefusal}
+
+-- where a table gives 0, a first row with another number was passed over, and the rest gives 0
+pub refusal-passed : (test : Bool) (number others : ℕ) → not (eqb number 0) ≡ true → cond test number others ≡ 0 → (test ≡ false) × (others ≡ 0)
+refusal-passed true number others refuses e = absurd (false≢true (ap not (sym (eq-eqb number 0 e)) ∙ refuses))
+refusal-passed false number others refuses e = (refl, e)
+
+-- ---- open: 15, 16, 18, 19, 20, 21
+
+pub record OpenPassed (st : State) (c : Confirmation) (verdict : ℕ) : Type 0 where
+  pub agreed : verdict ≡ 1
+  pub named : c .id .0 ≡ 0 → ⊥
+  pub low : c .value ≤ c .reading .0
+  pub unheld : holds (st .records) (c .id) ≡ false
+  pub room : length (st .records) ≡ maxCounters → ⊥
+  pub recent : st .clock .0 - length (st .log) ≤ c .reading .0
+  pub past : c .reading .0 ≤ st .clock .0
+  pub equal : c .value ≡ c .reading .0
+
+pub open-passed : (st : State) (c : Confirmation) (verdict : ℕ) → openRefusal st c verdict ≡ 0 → OpenPassed st c verdict
+open-passed st c verdict e =
+    let a = refusal-passed _ 15 _ refl e in
+    let b = refusal-passed _ 16 _ refl (a .1) in
+    let d = refusal-passed _ 18 _ refl (b .1) in
+    let f = refusal-passed _ 19 _ refl (d .1) in
+    let g = refusal-passed _ 20 _ refl (f .1) in
+    let h = refusal-passed _ 21 _ refl (g .1) in
+    record {
+      agreed = eqb-true verdict 1 (not-false _ (a .0));
+      named = eqb-false (c .id .0) 0 (or-left _ _ (b .0));
+      low = ltb-false (c .reading .0) (c .value) (or-right (eqb (c .id .0) 0) _ (b .0));
+      unheld = d .0;
+      room = eqb-false (length (st .records)) maxCounters (f .0);
+      recent = ltb-false (c .reading .0) (st .clock .0 - length (st .log)) (g .0);
+      past = ltb-false (st .clock .0) (c .reading .0) (or-left _ _ (h .0));
+      equal = eqb-true (c .value) (c .reading .0) (not-false _ (or-right (ltb (st .clock .0) (c .reading .0)) _ (h .0)));
+    }
+
+-- ---- tick: 16, 24, 25
+
+pub record TickPassed (st : State) (nonce : List ℕ) : Type 0 where
+  pub long : length nonce ≡ nonceLen
+  pub room : length (st .log) ≡ maxEntries → ⊥
+  pub running : st .clock .0 ≡ largest → ⊥
+
+pub tick-passed : (st : State) (nonce : List ℕ) → tickRefusal st nonce ≡ 0 → TickPassed st nonce
+tick-passed st nonce e =
+    let a = refusal-passed _ 16 _ refl e in
+    let b = refusal-passed _ 24 _ refl (a .1) in
+    let d = refusal-passed _ 25 _ refl (b .1) in
+    record {
+      long = eqb-true (length nonce) nonceLen (not-false _ (a .0));
+      room = eqb-false (length (st .log)) maxEntries (b .0);
+      running = eqb-false (st .clock .0) largest (d .0);
+    }
+
+-- ---- increment: 15, 16, 17, 22, 24, 25
+
+pub record IncrementPassed (st : State) (nonce : List ℕ) (id : CounterId) (before verdict : ℕ) : Type 0 where
+  pub agreed : verdict ≡ 1
+  pub named : id .0 ≡ 0 → ⊥
+  pub long : length nonce ≡ nonceLen
+  pub held : holds (st .records) id ≡ true
+  pub current : before ≡ currentOf st id
+  pub room : length (st .log) ≡ maxEntries → ⊥
+  pub running : st .clock .0 ≡ largest → ⊥
+
+pub increment-passed : (st : State) (nonce : List ℕ) (id : CounterId) (before verdict : ℕ) → incrementRefusal st nonce id before verdict ≡ 0
+    → IncrementPassed st nonce id before verdict
+increment-passed st nonce id before verdict e =
+    let a = refusal-passed _ 15 _ refl e in
+    let b = refusal-passed _ 16 _ refl (a .1) in
+    let d = refusal-passed _ 17 _ refl (b .1) in
+    let f = refusal-passed _ 22 _ refl (d .1) in
+    let g = refusal-passed _ 24 _ refl (f .1) in
+    let h = refusal-passed _ 25 _ refl (g .1) in
+    record {
+      agreed = eqb-true verdict 1 (not-false _ (a .0));
+      named = eqb-false (id .0) 0 (or-left _ _ (b .0));
+      long = eqb-true (length nonce) nonceLen (not-false _ (or-right (eqb (id .0) 0) _ (b .0)));
+      held = not-false _ (d .0);
+      current = eqb-true before (currentOf st id) (not-false _ (f .0));
+      room = eqb-false (length (st .log)) maxEntries (g .0);
+      running = eqb-false (st .clock .0) largest (h .0);
+    }
+
+-- ---- confirm: 15, 16, 17, 20, 21
+
+pub record ConfirmPassed (st : State) (c : Confirmation) (verdict : ℕ) : Type 0 where
+  pub agreed : verdict ≡ 1
+  pub named : c .id .0 ≡ 0 → ⊥
+  pub low : c .value ≤ c .reading .0
+  pub held : holds (st .records) (c .id) ≡ true
+  pub later : heldOf st (c .id) .reading .0 ≤ c .reading .0
+  pub past : c .reading .0 ≤ st .clock .0
+  pub value : c .value ≡ valueAt st (c .id) (c .reading)
+
+pub confirm-passed : (st : State) (c : Confirmation) (verdict : ℕ) → confirmRefusal st c verdict ≡ 0 → ConfirmPassed st c verdict
+confirm-passed st c verdict e =
+    let a = refusal-passed _ 15 _ refl e in
+    let b = refusal-passed _ 16 _ refl (a .1) in
+    let d = refusal-passed _ 17 _ refl (b .1) in
+    let f = refusal-passed _ 20 _ refl (d .1) in
+    let g = refusal-passed _ 21 _ refl (f .1) in
+    record {
+      agreed = eqb-true verdict 1 (not-false _ (a .0));
+      named = eqb-false (c .id .0) 0 (or-left _ _ (b .0));
+      low = ltb-false (c .reading .0) (c .value) (or-right (eqb (c .id .0) 0) _ (b .0));
+      held = not-false _ (d .0);
+      later = ltb-false (c .reading .0) (heldOf st (c .id) .reading .0) (f .0);
+      past = ltb-false (st .clock .0) (c .reading .0) (or-left _ _ (g .0));
+      value = eqb-true (c .value) (valueAt st (c .id) (c .reading)) (not-false _ (or-right (ltb (st .clock .0) (c .reading .0)) _ (g .0)));
+    }

@@ -1,0 +1,127 @@
+/*
+ * A handover check at a depot: box 7 is handed over, and the sheet shows its counter's value only where the desk accepts the proof.
+ * The proof is document 01's case A; the same with the owner's no at entry 1 is case G. Which signatures hold is the station's
+ * library's to say: its yes and no are the verdict bytes, which are written out here.
+ */
+#include "vmc.h"
+
+#include <stdio.h>
+#include <string.h>
+
+/* Document 01, "Proof form": a header of 24 bytes, the confirmation, the clock certificate and the entries. */
+enum { CONFIRMATION = 24, CERTIFICATE = 36, LOG = 60, ENTRY_LEN = 32, ENTRIES = 3, PROOF_LEN = LOG + ENTRY_LEN * ENTRIES };
+
+/* One for the confirmation, one for the clock certificate, two for each entry. */
+enum { VERDICTS_LEN = 2 + 2 * ENTRIES };
+
+static uint8_t *put_u16(uint8_t *at, uint16_t x)
+{
+    *at++ = (uint8_t)(x >> 8);
+    *at++ = (uint8_t)x;
+    return at;
+}
+
+static uint8_t *put_u32(uint8_t *at, uint32_t x)
+{
+    at = put_u16(at, (uint16_t)(x >> 16));
+    return put_u16(at, (uint16_t)x);
+}
+
+/* A nonce of 20 bytes b. */
+static uint8_t *put_nonce(uint8_t *at, uint8_t b)
+{
+    memset(at, b, VMC_NONCE_LEN);
+    return at + VMC_NONCE_LEN;
+}
+
+static uint8_t *put_entry(uint8_t *at, uint32_t reading, uint8_t nonce, uint32_t id, uint32_t before)
+{
+    at = put_u32(at, reading);
+    at = put_nonce(at, nonce);
+    at = put_u32(at, id);
+    return put_u32(at, before);
+}
+
+/* The proof that document 01 calls P, closed by a clock read with the nonce given. */
+static void write_proof(uint8_t proof[PROOF_LEN], uint8_t nonce)
+{
+    uint8_t *at = proof;
+
+    at = put_u16(at, 1); /* form */
+    at = put_u16(at, 1); /* kind: closes on a clock read */
+    at = put_u32(at, PROOF_LEN);
+    at = put_u32(at, CONFIRMATION);
+    at = put_u32(at, CERTIFICATE);
+    at = put_u32(at, LOG);
+    at = put_u32(at, ENTRIES);
+
+    /* confirmation: counter, value, reading */
+    at = put_u32(at, 7);
+    at = put_u32(at, 100);
+    at = put_u32(at, 100);
+
+    /* clock certificate: reading, nonce */
+    at = put_u32(at, 103);
+    at = put_nonce(at, nonce);
+
+    at = put_entry(at, 101, 1, 7, 100);
+    at = put_entry(at, 102, 2, 9, 100);
+    put_entry(at, 103, 3, 7, 101);
+}
+
+/* What the clerk reads on a refusal, by its number. */
+static const char *const refusals[] = {
+    [1] = "the request names no box, or its nonce is not 20 bytes long",
+    [2] = "the proof is too short to have a header",
+    [3] = "the proof is of an unknown form or kind",
+    [4] = "the proof has too many entries, or none to close on",
+    [5] = "the proof's length or an offset is wrong: it was cut short or altered",
+    [6] = "the list of signature checks does not fit the proof",
+    [7] = "the confirmation is for another box, or states a value above its reading",
+    [8] = "the owner did not sign the confirmation",
+    [9] = "the module did not certify a reading",
+    [10] = "the proof was not made for this request",
+    [11] = "the clock readings have a gap",
+    [12] = "the owner did not sign an opening of this box",
+    [13] = "the openings of this box do not follow on one another",
+};
+
+static void hand_over(const char *title, const uint8_t *proof, size_t proof_len, const uint8_t *verdicts, size_t verdicts_len,
+                      uint32_t id, const uint8_t nonce[VMC_NONCE_LEN])
+{
+    vmc_desk_figures answer = vmc_desk_verify(proof, proof_len, verdicts, verdicts_len, id, nonce, VMC_NONCE_LEN);
+
+    printf("%s\n", title);
+    printf("  number %u, value %u, closing %u, place %u\n", (unsigned)answer.number, (unsigned)answer.value,
+           (unsigned)answer.closing, (unsigned)answer.place);
+    if (answer.number == 0) {
+        printf("  Accepted: box %u is handed over at value %u, as of clock reading %u.\n", (unsigned)id, (unsigned)answer.value,
+               (unsigned)answer.closing);
+        return;
+    }
+    printf("  Refused: %s", answer.number < sizeof refusals / sizeof refusals[0] ? refusals[answer.number] : "unknown number");
+    if (answer.place != 0)
+        printf(" (place %u)", (unsigned)answer.place);
+    printf(".\n");
+}
+
+int main(void)
+{
+    uint8_t proof[PROOF_LEN];
+    uint8_t verdicts[VERDICTS_LEN];
+    uint8_t nonce[VMC_NONCE_LEN];
+
+    put_nonce(nonce, 5);
+    write_proof(proof, 5);
+    memset(verdicts, 1, sizeof verdicts);
+    hand_over("Every signature holds", proof, sizeof proof, verdicts, sizeof verdicts, 7, nonce);
+
+    /* After the confirmation's and the clock certificate's, entry 1 has the module's verdict and then the owner's. */
+    verdicts[2 + 1] = 0;
+    hand_over("The owner did not sign entry 1", proof, sizeof proof, verdicts, sizeof verdicts, 7, nonce);
+    verdicts[2 + 1] = 1;
+
+    hand_over("The last entry is cut off", proof, sizeof proof - ENTRY_LEN, verdicts, sizeof verdicts, 7, nonce);
+
+    return fflush(stdout) == 0 ? 0 : 1;
+}

@@ -1,0 +1,296 @@
+#!/usr/bin/env python3
+# The expected output of the program desk_cases, from document 01 alone: a byte writer and a desk of its own.
+import sys
+
+MAX = 4294967295
+
+# ---- document 01, "Proof form"
+
+def nonce(b, n=20):
+    return bytes([b]) * n
+
+def be(n, size):
+    out = []
+    for _ in range(size):
+        out.append(n & 255)
+        n >>= 8
+    assert n == 0
+    return bytes(reversed(out))
+
+def write(kind, conf, cert, entries):
+    box, v, g = conf
+    n = len(entries)
+    log = {1: 60, 2: 36}[kind]
+    s = be(1, 2) + be(kind, 2) + be(log + 32 * n, 4) + be(24, 4) + be({1: 36, 2: 0}[kind], 4) + be(log, 4) + be(n, 4)
+    assert len(s) == 24
+    s += be(box, 4) + be(v, 4) + be(g, 4)
+    if kind == 1:
+        s += be(cert[0], 4) + cert[1]
+    for t, non, b, before in entries:
+        s += be(t, 4) + non + be(b, 4) + be(before, 4)
+    assert len(s) == log + 32 * n
+    return bytearray(s)
+
+# ---- document 01, "The desk": every rule that applies is collected, and the first in number order is the answer
+
+def desk(s, verdicts, box, wanted):
+    u = lambda at, size=4: int.from_bytes(s[at:at + size], 'big')
+    broken = []          # (number, order within the number, place)
+    if box == 0 or len(wanted) != 20:
+        broken.append((1, 0, 0))
+    if len(s) < 24:
+        broken.append((2, 0, 0))
+        return pick(broken, None)
+    form, kind, n = u(0, 2), u(2, 2), u(20)
+    if form != 1 or kind not in (1, 2):
+        broken.append((3, 0, 0))
+    if n > 1024 or (kind == 2 and n == 0):
+        broken.append((4, 0, 0))
+    log, certoff, before = (60, 36, 2) if kind == 1 else (36, 0, 1)
+    length = log + 32 * n
+    if (len(s), u(4), u(8), u(12), u(16)) != (length, length, 24, certoff, log):
+        broken.append((5, 0, 0))
+    if any(b[0] in (3, 4, 5) for b in broken):
+        return pick(broken, None)      # not read as a proof: nothing further can be looked at
+    if len(verdicts) != before + 2 * n or any(b > 1 for b in verdicts):
+        broken.append((6, 0, 0))
+    cbox, v, g = u(24), u(28), u(32)
+    if cbox != box or v > g:
+        broken.append((7, 0, 0))
+    at = lambda i: verdicts[i] if i < len(verdicts) else 1
+    if at(0) == 0:
+        broken.append((8, 0, 0))
+    if kind == 1 and at(1) == 0:
+        broken.append((9, 0, 0))
+    es = []
+    for i in range(n):
+        o = log + 32 * i
+        es.append((u(o), bytes(s[o + 4:o + 24]), u(o + 24), u(o + 28)))
+    for i in range(1, n + 1):
+        if at(before + 2 * (i - 1)) == 0:
+            broken.append((9, i, i))
+    if kind == 1:
+        if bytes(s[40:60]) != wanted:
+            broken.append((10, 0, 0))
+    elif es[-1][2] != box or es[-1][1] != wanted:
+        broken.append((10, 0, 0))
+    for i in range(1, n + 1):
+        if es[i - 1][0] != g + i:
+            broken.append((11, i, i))
+    if kind == 1 and u(36) != g + n:
+        broken.append((11, n + 1, n + 1))
+    for i in range(1, n + 1):
+        if es[i - 1][2] == box and at(before + 2 * (i - 1) + 1) == 0:
+            broken.append((12, i, i))
+    running = v
+    for i in range(1, n + 1):
+        t, _, b, bef = es[i - 1]
+        if b == box:
+            if bef != running:
+                broken.append((13, i, i))
+            running = t
+    T = u(36) if kind == 1 else es[-1][0]
+    return pick(broken, (0, running, T, 0))
+
+LAST = []                # the numbers of every rule that the last case broke
+
+def pick(broken, good):
+    numbers = sorted({b[0] for b in broken})
+    global LAST
+    LAST = numbers
+    if not broken:
+        return good
+    number, _, place = min(broken)
+    return (number, 0, 0, place)
+
+# ---- the cases
+
+lines = []
+pairs = set()
+singles = set()
+
+def entry(t, b, box, before):
+    return (t, nonce(b), box, before)
+
+E1, E2, E3 = entry(101, 1, 7, 100), entry(102, 2, 9, 100), entry(103, 3, 7, 101)
+P = [E1, E2, E3]
+
+def yes(kind, n):
+    return bytearray([1] * ({1: 2, 2: 1}[kind] + 2 * n))
+
+def case(label, want=None, kind=1, conf=(7, 100, 100), cert=103, log=P, no=(), verdicts=None, box=7, wanted=None, word=None, lent=None, breaks=None):
+    s = write(kind, conf, (cert, nonce(5)), log)
+    if word is not None:
+        at, number = word
+        s[at:at + 4] = be(number, 4)
+    if lent is not None:
+        s = s[:lent] if lent <= len(s) else s + bytearray(lent - len(s))
+    if verdicts is None:
+        verdicts = yes(kind, len(log))
+        for i in no:
+            verdicts[i] = 0
+    if wanted is None:
+        wanted = nonce(5 if kind == 1 else 3)
+    got = desk(bytes(s), bytes(verdicts), box, wanted)
+    if want is not None:
+        assert got == tuple(want), (label, got, want)
+    if breaks is not None:
+        assert set(breaks) <= set(LAST), (label, LAST)
+    if got[0]:
+        assert got[0] == LAST[0]
+        singles.add(got[0])
+        for other in LAST[1:]:
+            pairs.add((got[0], other))
+    lines.append('%s: %d %d %d %d' % ((label,) + got))
+
+# where a verdict stands in kind 1 and in kind 2: module's and owner's of entry i
+def m(i, kind=1): return {1: 2, 2: 1}[kind] + 2 * (i - 1)
+def o(i, kind=1): return m(i, kind) + 1
+
+# ---- document 01, "Twelve proofs at the desk": number, value, place asserted
+def doc(label, number, value, place, **k):
+    case(label, **k)
+    f = lines[-1].split(': ')[-1].split()
+    assert (int(f[0]), int(f[1]), int(f[3])) == (number, value, place), lines[-1]
+
+doc('A', 0, 103, 0)
+doc('B', 0, 100, 0, log=[], cert=100)
+doc('C', 11, 0, 1, log=[], cert=99)
+doc('D', 13, 0, 3, log=[E1, E2, entry(103, 3, 7, 100)])
+doc('E', 11, 0, 2, log=[E1, E3])
+doc('F', 0, 103, 0, no=[o(2)])
+doc('G', 12, 0, 1, no=[o(1)])
+doc('H', 10, 0, 0, wanted=nonce(6))
+doc('I', 7, 0, 0, conf=(7, 101, 100))
+doc('J', 10, 0, 0, kind=2, log=[E1, E2], wanted=nonce(5))
+doc('K', 0, 4294967295, 0, conf=(7, MAX, MAX), cert=MAX, log=[])
+doc('L', 11, 0, 1, conf=(7, MAX, MAX), cert=0, log=[entry(0, 1, 7, MAX)])
+
+# ---- vectors/desk.md, its figures asserted
+case('P as it stands', (0, 103, 103, 0))
+case('forged clock certificate', (9, 0, 0, 0), no=[1])
+case('forged entry 2', (9, 0, 0, 2), no=[m(2)])
+case('forged certificate and entry 1', (9, 0, 0, 0), no=[1, m(1)])
+case('forged entry 3, t of entry 1 wrong', (9, 0, 0, 3), no=[m(3)], log=[entry(105, 1, 7, 100), E2, E3])
+case('own increment hidden under counter 9', (0, 101, 103, 0), log=[E1, E2, entry(103, 3, 9, 101)])
+case('first entry left out', (11, 0, 0, 1), log=[E2, E3])
+case('last entry left out', (11, 0, 0, 3), log=[E1, E2])
+case('last entry left out, certificate 102', (0, 101, 102, 0), log=[E1, E2], cert=102)
+case('entry 1 twice', (11, 0, 0, 2), log=[E1, E1, E2, E3])
+case('entries 1 and 2 exchanged', (11, 0, 0, 1), log=[E2, E1, E3])
+case('one entry past the certificate', (11, 0, 0, 5), log=[E1, E2, E3, entry(104, 4, 9, 102)])
+case("t of entry 2, another counter's, wrong", (11, 0, 0, 2), log=[E1, entry(150, 2, 9, 100), E3])
+case('confirmation of counter 9', (7, 0, 0, 0), conf=(9, 100, 100))
+case("confirmation's verdict no", (8, 0, 0, 0), no=[0])
+case('confirmation (7, 101, 102)', (0, 103, 103, 0), conf=(7, 101, 102), log=[E3])
+case('confirmation (7, 100, 102)', (13, 0, 0, 1), conf=(7, 100, 102), log=[E3])
+case('confirmation (7, 101, 104)', (11, 0, 0, 1), conf=(7, 101, 104), log=[])
+W1 = entry(101, 1, 7, 99)
+case("owner's no at entry 3, value before wrong at entry 1", (12, 0, 0, 3), log=[W1, E2, E3], no=[o(3)], breaks=[12, 13])
+case('value before wrong at entry 1', (13, 0, 0, 1), log=[W1, E2, E3])
+case("another counter's value before is free", (0, 103, 103, 0), log=[E1, entry(102, 2, 9, 77), E3])
+case('counter 0 with value 5', (0, 103, 103, 0), log=[E1, entry(102, 2, 0, 5), E3])
+case('kind 2, closing on entry 3', (0, 103, 103, 0), kind=2)
+case('kind 2, another nonce wanted', (10, 0, 0, 0), kind=2, wanted=nonce(6))
+case("kind 2, the wanted nonce in another counter's entry", (10, 0, 0, 0), kind=2, log=[E1, E2], wanted=nonce(2))
+case("kind 2, owner's no at the last entry", (12, 0, 0, 3), kind=2, no=[o(3, 2)])
+case('kind 2, last t wrong', (11, 0, 0, 3), kind=2, log=[E1, E2, entry(104, 3, 7, 101)])
+N = MAX - 1
+case('wrap', (11, 0, 0, 2), conf=(7, N, N), cert=0, log=[entry(MAX, 1, 7, N), entry(0, 2, 7, MAX)])
+case('the last reading', (0, MAX, MAX, 0), conf=(7, N, N), cert=MAX, log=[entry(MAX, 1, 7, N)])
+case('wanted counter 0', (1, 0, 0, 0), box=0)
+case('wanted nonce of 19 bytes', (1, 0, 0, 0), wanted=nonce(5, 19))
+v = yes(1, 3); v[o(2)] = 2
+case("verdict 2 at another counter's owner", (6, 0, 0, 0), verdicts=v)
+case('verdict list one byte too long', (6, 0, 0, 0), verdicts=yes(1, 3) + b'\1')
+
+# ---- cases of our own, number and place asserted by hand
+R = lambda number, place=0: (number, 0, 0, place)
+NONE = bytearray()
+case('1, nonce of 21 bytes', R(1), wanted=nonce(5, 21))
+case('1, empty nonce', R(1), wanted=b'')
+case('1, all empty', R(1), wanted=b'', lent=0, verdicts=NONE, breaks=[1, 2])
+case('1 and 2', R(1), box=0, lent=23, breaks=[1, 2])
+case('2, 23 bytes', R(2), lent=23)
+case('2, empty proof', R(2), lent=0)
+case('2, proof and verdicts empty', R(2), lent=0, verdicts=NONE)
+case('2 and 3', R(2), word=(0, 2 * 65536 + 1), lent=23)
+pairs.add((2, 3))        # form 2 in 23 bytes: the desk above stops at 2, having no whole header
+case('3, form 2', R(3), word=(0, 2 * 65536 + 1))
+case('3, kind 0', R(3), word=(0, 65536))
+case('3, kind 3', R(3), word=(0, 65536 + 3))
+case('3 and 4', R(3), word=(0, 2 * 65536 + 2), log=[], verdicts=bytearray(b'\1'), breaks=[3, 4])
+case('3 and 5', R(3), word=(0, 0), lent=24, verdicts=NONE, breaks=[3, 5])
+case('4, kind 2 without entries', R(4), word=(0, 65536 + 2), log=[], verdicts=bytearray(b'\1'))
+case('4, most entries in 24 bytes', R(4), word=(20, MAX), lent=24, breaks=[4, 5])
+case('4 and 5', R(4), word=(20, 1025), breaks=[4, 5])
+assert len(write(1, (7, 100, 100), (103, nonce(5)), P)) == 156
+case('5, one byte more', R(5), lent=157)
+case('5, one byte less', R(5), lent=155)
+case('5, length', R(5), word=(4, 157))
+case("5, confirmation's offset", R(5), word=(8, 25))
+case("5, certificate's offset", R(5), word=(12, 0))
+case("5, log's offset", R(5), word=(16, 36))
+case('5, count', R(5), word=(20, 2))
+case('5, kind', R(5), word=(0, 65536 + 2), verdicts=yes(2, 3))
+case('5 and 6', R(5), word=(4, 155), verdicts=yes(1, 3)[:7])
+pairs.add((5, 6))        # 7 verdicts for 3 entries in kind 1: the desk above stops at 5, having no proof
+def v2(i, no=()):
+    v = yes(1, 3); v[i] = 2
+    for k in no: v[k] = 0
+    return v
+case('6, one verdict less', R(6), verdicts=yes(1, 3)[:7])
+case('6, empty verdicts', R(6), verdicts=NONE)
+case('6, verdict 2 at the confirmation', R(6), verdicts=v2(0))
+case('6, verdict 2 at the end', R(6), verdicts=v2(7))
+case('6 and 7', R(6), conf=(7, 101, 100), verdicts=v2(o(2)), breaks=[6, 7])
+case('6 and 8', R(6), verdicts=v2(7, [0]), breaks=[6, 8])
+case('7 and 8, value', R(7), conf=(7, 101, 100), no=[0], breaks=[7, 8])
+case('7 and 8, counter', R(7), conf=(9, 100, 100), no=[0], breaks=[7, 8])
+case('8 and 9, certificate', R(8), no=[0, 1], breaks=[8, 9])
+case('8 and 9, entry', R(8), no=[0, m(1)], breaks=[8, 9])
+case('9, entries 2 and 3', R(9, 2), no=[m(2), m(3)])
+case('9 and 10, certificate', R(9), no=[1], wanted=nonce(6), breaks=[9, 10])
+case('9 and 10, entry', R(9, 3), no=[m(3)], wanted=nonce(6), breaks=[9, 10])
+case('9 and 11', R(9, 3), no=[m(3)], cert=104, breaks=[9, 11])
+case('10, last byte of the nonce', R(10), word=(56, 0x05050506))
+case('10 and 11, certificate', R(10), wanted=nonce(6), cert=104, breaks=[10, 11])
+case('10 and 11, entry', R(10), wanted=nonce(6), log=[entry(105, 1, 7, 100), E2, E3], breaks=[10, 11])
+LATE = [E1, E2, entry(104, 3, 7, 99)]
+case('11, entries 2 and 3', R(11, 2), log=[E1, entry(103, 2, 9, 100), entry(104, 3, 7, 101)])
+case('11, entry and certificate', R(11, 3), cert=104, log=LATE)
+case('11 and 12, certificate', R(11, 4), cert=104, no=[o(1)], breaks=[11, 12])
+case('11 and 12, entry', R(11, 3), log=LATE, no=[o(1)], breaks=[11, 12])
+case('11 and 13', R(11, 3), log=LATE, breaks=[11, 13])
+case('12, entries 1 and 3', R(12, 1), no=[o(1), o(3)])
+case('13, entries 1 and 3', R(13, 1), log=[W1, E2, entry(103, 3, 7, 102)])
+EARLY = [entry(102, 1, 7, 100), E2, E3]
+case("6, kind 2 with kind 1's verdicts", R(6), kind=2, verdicts=yes(1, 3))
+case('9, kind 2', R(9, 3), kind=2, no=[m(3, 2)])
+case('9 and 10, kind 2', R(9, 3), kind=2, no=[m(3, 2)], wanted=nonce(6), breaks=[9, 10])
+case('10, kind 2, last byte of the nonce', R(10), kind=2, word=(36 + 64 + 20, 0x03030306))
+case('10, kind 2, nonce of entry 1', R(10), kind=2, wanted=nonce(1))
+case('10 and 11, kind 2, nonce', R(10), kind=2, wanted=nonce(6), log=EARLY, breaks=[10, 11])
+case('10 and 11, kind 2, counter', R(10), kind=2, log=[entry(102, 1, 7, 100), E2, entry(103, 3, 9, 101)], breaks=[10, 11])
+case('11 and 12, kind 2', R(11, 1), kind=2, log=EARLY, no=[o(1, 2), o(3, 2)], breaks=[11, 12])
+case('13, kind 2', R(13, 3), kind=2, log=[E1, E2, entry(103, 3, 7, 100)])
+case('kind 2, one entry', (0, 101, 101, 0), kind=2, log=[entry(101, 3, 7, 100)])
+case('kind 2, the last reading', (0, MAX, MAX, 0), kind=2, conf=(7, N, N), log=[entry(MAX, 3, 7, N)])
+case('kind 2, wrap', R(11, 1), kind=2, conf=(7, MAX, MAX), log=[entry(0, 3, 7, MAX)])
+case('value below reading', (0, 50, 100, 0), conf=(7, 50, 100), cert=100, log=[])
+case('all 0', (0, 0, 0, 0), conf=(7, 0, 0), cert=0, log=[])
+case('no entry of its own', (0, 100, 102, 0), cert=102, log=[entry(101, 1, 0, 0), E2], no=[o(1), o(2)])
+case('counter 9 wanted', (0, 102, 103, 0), conf=(9, 100, 100), box=9, no=[o(1), o(3)])
+case('highest counter', (0, 100, 100, 0), conf=(MAX, 100, 100), cert=100, log=[], box=MAX)
+
+# ---- the last row of vectors/desk.md, and its neighbours
+LONG = [entry(100 + i, i % 256, 7 if i % 64 == 0 else 9, 36 + i) for i in range(1, 1025)]
+case('1,024 entries', (0, 1124, 1124, 0), cert=1124, log=LONG)
+case('1,024 entries, kind 2', (0, 1124, 1124, 0), kind=2, log=LONG, wanted=nonce(0))
+case('12, entry 1,024', (12, 0, 0, 1024), cert=1124, log=LONG, no=[o(1024)])
+case('11 and 12, certificate behind 1,024 entries', (11, 0, 0, 1025), cert=1125, log=LONG, no=[o(1024)], breaks=[11, 12])
+
+assert singles == set(range(1, 14)), singles
+missing = [(a, a + 1) for a in range(1, 13) if (a, a + 1) not in pairs]
+assert not missing, missing
+sys.stdout.write('\n'.join(lines) + '\n')
