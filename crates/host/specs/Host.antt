@@ -152,10 +152,11 @@ raised st carried nonce =
 abbrev pub noneHeld : State → Bool
 noneHeld st = eqb (length (st .records)) 0
 
+abbrev pub advanced : State → State
+advanced st = record { clock = globalClock (st .clock .0 + 1); records = st .records; log = st .log; written = st .written }
+
 abbrev pub ticked : State → List ℕ → State
-ticked st nonce =
-    cond (noneHeld st) (record { clock = globalClock (st .clock .0 + 1); records = st .records; log = st .log; written = st .written })
-    (raised st Carried.Tick nonce)
+ticked st nonce = cond (noneHeld st) (advanced st) (raised st Carried.Tick nonce)
 
 -- prove and last "add 1 to proofs written", which "stops at 4,294,967,295"
 abbrev pub counted : State → State
@@ -192,14 +193,17 @@ pub record Settled : Type 0 where
   pub figures : Figures
   pub image : List ℕ
 
--- 14 where the image is not sound; else the refusal; else the value and the new state's image
+-- 14 where the image is not sound; else the refusal; else the value
+unfoldable pub answered : List ℕ → ℕ → ℕ → Figures
+answered s number value =
+    cond (sound s)
+    (cond (eqb number 0) (record { number = 0; value = value }) (record { number = number; value = 0 }))
+    (record { number = 14; value = 0 })
+
+-- and the image of the next state, or the old one where the call is refused
 unfoldable pub settled : List ℕ → ℕ → ℕ → State → Settled
 settled s number value next =
-    cond (sound s)
-    (cond (eqb number 0)
-    (record { figures = record { number = 0; value = value }; image = encode next })
-    (record { figures = record { number = number; value = 0 }; image = s }))
-    (record { figures = record { number = 14; value = 0 }; image = s })
+    record { figures = answered s number value; image = cond (sound s && eqb number 0) (encode next) s }
 
 unfoldable pub startCall : List ℕ → GlobalClock → Settled
 startCall s clock =
@@ -222,10 +226,9 @@ incrementCall s nonce id before verdict =
     let st : State = decode s in
     settled s (incrementRefusal st nonce id before verdict) (st .clock .0 + 1) (raised st (Carried.Request id before) nonce)
 
-abbrev pub readCall : List ℕ → CounterId → Settled
-readCall s id =
-    let st : State = decode s in
-    settled s (readRefusal st id) (currentOf st id) st
+-- read writes nothing
+abbrev pub readCall : List ℕ → CounterId → Figures
+readCall s id = answered s (readRefusal (decode s) id) (currentOf (decode s) id)
 
 abbrev pub proveCall : List ℕ → List ℕ → CounterId → ℕ → Settled
 proveCall s nonce id room =

@@ -1,6 +1,7 @@
 pub mod ConfirmLaws
 pub mod DecodeLaws
 pub mod EachRecordLaws
+pub mod EffectLaws
 pub mod HeldLaws
 pub mod Host
 pub mod IndexLaws
@@ -10,4 +11,5 @@ pub mod RaiseLaws
 pub mod RefusalLaws
 pub mod SettledLaws
 pub mod SoundParts
+pub mod StartLaws
 pub mod ValueLaws

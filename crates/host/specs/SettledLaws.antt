@@ -1,38 +1,74 @@
 -- Laws of a call on an image: 14, a refusal, and success; and going through a row of refusals one by one. Assumes nothing.
 use mathlib.Core.Path.{_≡_, refl, sym, ap, ap₂, _∙_}
 use Prim.Native.Nat.{ℕ}
-use mathlib.Core.Bool.{Bool, true, false, cond}
+use mathlib.Core.Bool.{Bool, true, false, cond, _&&_, _||_}
 use mathlib.Core.List.{List}
 use lib.Dec.{eqb}
 use borrow.Author.Tests.{eq-eqb, ne-eqb}
 use Rattle.image.specs.State.{State, encode}
 use Rattle.image.specs.Sound.{sound}
 use Rattle.host.specs.declared.answer.Figures.{Figures}
-use Rattle.host.specs.Host.{Settled, settled}
+use Rattle.host.specs.Host.{Settled, answered, settled}
+
+-- what is answered where a test is known
+answered-at : (s : List ℕ) (number value : ℕ) {a b : Bool} → sound s ≡ a → eqb number 0 ≡ b
+    → answered s number value ≡ cond a (cond b (record { number = 0; value = value }) (record { number = number; value = 0 })) (record { number = 14; value = 0 })
+unfolding answered
+answered-at s number value e d =
+    ap₂ (λ (x y : Bool). cond x (cond y (record { number = 0; value = value }) (record { number = number; value = 0 })) (record { number = 14; value = 0 })) e d
 
 -- an image that is not sound
+pub answered-unsound : (s : List ℕ) (number value : ℕ) → sound s ≡ false → answered s number value ≡ record { number = 14; value = 0 }
+answered-unsound s number value e = answered-at s number value e refl
+
+-- a refusal
+pub answered-refused : (s : List ℕ) (number value : ℕ) → sound s ≡ true → (number ≡ 0 → ⊥) → answered s number value ≡ record { number = number; value = 0 }
+answered-refused s number value e some = answered-at s number value e (ne-eqb number 0 some)
+
+-- success
+pub answered-done : (s : List ℕ) (number value : ℕ) → sound s ≡ true → number ≡ 0 → answered s number value ≡ record { number = 0; value = value }
+answered-done s number value e none = answered-at s number value e (eq-eqb number 0 none)
+
+-- the same of the image
 pub settled-unsound : (s : List ℕ) (number value : ℕ) (next : State) → sound s ≡ false
     → settled s number value next ≡ record { figures = record { number = 14; value = 0 }; image = s }
 unfolding settled
 settled-unsound s number value next e =
-    ap (λ (b : Bool). cond b (cond (eqb number 0) (record { figures = record { number = 0; value = value }; image = encode next }) (record { figures = record { number = number; value = 0 }; image = s }))
-      (record { figures = record { number = 14; value = 0 }; image = s })) e
+    ap₂ (λ (f : Figures) (b : Bool). record { figures = f; image = cond (b && eqb number 0) (encode next) s }) (answered-unsound s number value e) e
 
--- a refusal
 pub settled-refused : (s : List ℕ) (number value : ℕ) (next : State) → sound s ≡ true → (number ≡ 0 → ⊥)
     → settled s number value next ≡ record { figures = record { number = number; value = 0 }; image = s }
 unfolding settled
 settled-refused s number value next e some =
-    ap₂ (λ (b d : Bool). cond b (cond d (record { figures = record { number = 0; value = value }; image = encode next }) (record { figures = record { number = number; value = 0 }; image = s }))
-      (record { figures = record { number = 14; value = 0 }; image = s })) e (ne-eqb number 0 some)
+    ap₂ (λ (f : Figures) (b : Bool). record { figures = f; image = cond b (encode next) s }) (answered-refused s number value e some)
+    (ap₂ _&&_ e (ne-eqb number 0 some))
 
--- success
 pub settled-done : (s : List ℕ) (number value : ℕ) (next : State) → sound s ≡ true → number ≡ 0
     → settled s number value next ≡ record { figures = record { number = 0; value = value }; image = encode next }
 unfolding settled
 settled-done s number value next e none =
-    ap₂ (λ (b d : Bool). cond b (cond d (record { figures = record { number = 0; value = value }; image = encode next }) (record { figures = record { number = number; value = 0 }; image = s }))
-      (record { figures = record { number = 14; value = 0 }; image = s })) e (eq-eqb number 0 none)
+    ap₂ (λ (f : Figures) (b : Bool). record { figures = f; image = cond b (encode next) s }) (answered-done s number value e none)
+    (ap₂ _&&_ e (eq-eqb number 0 none))
+
+-- what the code of a call shows at each of its three ends: figures and image
+abbrev Ends : Settled → Figures → List ℕ → Type 0
+Ends r figures image = (figures ≡ r .figures) × (image ≡ r .image)
+
+ends : {r : Settled} (figures : Figures) (image : List ℕ) → r ≡ record { figures = figures; image = image } → Ends r figures image
+ends figures image e = (sym (ap (λ (x : Settled). x .figures) e), sym (ap (λ (x : Settled). x .image) e))
+
+pub ends-unsound : (s : List ℕ) (number value : ℕ) (next : State) → sound s ≡ false → Ends (settled s number value next) (record { number = 14; value = 0 }) s
+ends-unsound s number value next e = ends _ _ (settled-unsound s number value next e)
+
+pub ends-refused : (s : List ℕ) (number value : ℕ) (next : State) (shown : ℕ) → sound s ≡ true → shown ≡ number → (shown ≡ 0 → ⊥)
+    → Ends (settled s number value next) (record { number = shown; value = 0 }) s
+ends-refused s number value next shown e same some =
+    ends _ _ (settled-refused s number value next e (λ none. some (same ∙ none)) ∙ (λ i. record { figures = record { number = sym same i; value = 0 }; image = s }))
+
+pub ends-done : (s : List ℕ) (number value : ℕ) (next : State) (shown : ℕ) (image : List ℕ) → sound s ≡ true → number ≡ 0 → shown ≡ value → image ≡ encode next
+    → Ends (settled s number value next) (record { number = 0; value = shown }) image
+ends-done s number value next shown image e none same stored =
+    ends _ _ (settled-done s number value next e none ∙ (λ i. record { figures = record { number = 0; value = sym same i }; image = sym stored i }))
 
 -- a row whose test does not hold is passed over; one whose test holds gives its number
 pub passed : {x : ℕ} (test : Bool) (row others : ℕ) → x ≡ cond test row others → test ≡ false → x ≡ others
@@ -40,3 +76,10 @@ passed test row others e left = e ∙ ap (λ (b : Bool). cond b row others) left
 
 pub given : {x : ℕ} (test : Bool) (row others : ℕ) → x ≡ cond test row others → test ≡ true → x ≡ row
 given test row others e taken = e ∙ ap (λ (b : Bool). cond b row others) taken
+
+-- a test of two parts, taken one after the other
+pub or-first : (a b : Bool) → a ≡ true → a ≡ (a || b)
+or-first a b e = e ∙ sym (ap (λ (x : Bool). x || b) e)
+
+pub or-second : (a b : Bool) → a ≡ false → b ≡ (a || b)
+or-second a b e = sym (ap (λ (x : Bool). x || b) e)

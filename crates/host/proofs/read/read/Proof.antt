@@ -11,8 +11,8 @@ use Rattle.forms.specs.Checks.{firstOf}
 use Rattle.image.specs.State.{State, decode}
 use Rattle.image.specs.Sound.{sound, holds}
 use Rattle.host.specs.declared.answer.Figures.{Figures}
-use Rattle.host.specs.Host.{Settled, settled, readRows, readRefusal, currentOf}
-use Rattle.host.specs.SettledLaws.{settled-unsound, settled-refused, settled-done, passed, given}
+use Rattle.host.specs.Host.{answered, readRows, readRefusal, currentOf}
+use Rattle.host.specs.SettledLaws.{answered-unsound, answered-refused, answered-done, passed, given}
 use Rattle.host.proofs.read.read.Statement.{statement}
 use Rattle.host.proofs.read.read.Tie as tie
 
@@ -27,16 +27,15 @@ refusal c = readRefusal (state c) (c .args .id)
 
 -- what a refusal gives
 refused : (c : tie.Start) (n : ℕ) → sound (c .args .image .now) ≡ true → refusal c ≡ n → (n ≡ 0 → ⊥)
-    → record { number = n; value = 0 } ≡ settled (c .args .image .now) (refusal c) (currentOf (state c) (c .args .id)) (state c) .figures
+    → record { number = n; value = 0 } ≡ answered (c .args .image .now) (refusal c) (currentOf (state c) (c .args .id))
 refused c n yes' e some =
     (λ i. record { number = sym e i; value = 0 })
-    ∙ sym (ap (λ (r : Settled). r .figures) (settled-refused (c .args .image .now) (refusal c) (currentOf (state c) (c .args .id)) (state c) yes' (λ none. some (sym e ∙ none))))
+    ∙ sym (answered-refused (c .args .image .now) (refusal c) (currentOf (state c) (c .args .id)) yes' (λ none. some (sym e ∙ none)))
 
 unsound : tie.Need-returns
 unsound c =
     let s = start (c .before) in
-    sym (ap (λ (r : Settled). r .figures)
-      (settled-unsound (s .args .image .now) (refusal s) (currentOf (state s) (s .args .id)) (state s) (sym (c .before .sound .ensures) ∙ not-true _ (c .if1 .taken))))
+    sym (answered-unsound (s .args .image .now) (refusal s) (currentOf (state s) (s .args .id)) (sym (c .before .sound .ensures) ∙ not-true _ (c .if1 .taken)))
 
 is-sound : (c : tie.Else1) → sound (start (c .before) .args .image .now) ≡ true
 is-sound c = sym (c .before .sound .ensures) ∙ not-false _ (c .if1 .left)
@@ -67,9 +66,8 @@ done c =
     let passed-1 = last .before .before .before .before in
     let s = start (passed-1 .before) in
     (λ i. record { number = 0; value = c .current-value .ensures i })
-    ∙ sym (ap (λ (r : Settled). r .figures)
-      (settled-done (s .args .image .now) (refusal s) (currentOf (state s) (s .args .id)) (state s) (is-sound passed-1)
-      (passed _ 17 _ (rest-1 (last .before .before)) (held-is (last .before) ∙ last .if3 .left))))
+    ∙ sym (answered-done (s .args .image .now) (refusal s) (currentOf (state s) (s .args .id)) (is-sound passed-1)
+    (passed _ 17 _ (rest-1 (last .before .before)) (held-is (last .before) ∙ last .if3 .left)))
 
 pub read-spec : {M : Type 1} → statement M
 read-spec =

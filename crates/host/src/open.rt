@@ -1,0 +1,81 @@
+// open: takes up a counter by its owner's confirmation, whose value is its reading.
+use crate::answer::Figures;
+use crate::counter::is_held;
+use crate::refusal::bad_confirmation;
+use crate::refusal::bad_opening;
+use forms::confirmation::Confirmation;
+use forms::image::Image;
+use forms::number::put_u32;
+use image::header;
+use image::header::clock;
+use image::header::counter_count;
+use image::header::entry_count;
+use image::soundness::sound;
+ghost use mathlib.Core.Path.{_≡_};
+ghost use mathlib.Core.Bool.{true};
+ghost use Prim.Native.Nat.{_+_, _<_};
+ghost use lib.ListN.{length};
+ghost use Rattle.forms.specs.Limits.{maxCounters};
+ghost use Rattle.image.specs.Sound.{sound};
+ghost use Rattle.image.specs.State.{decode, encode};
+ghost use Rattle.host.specs.Host.{openCall, openRefusal, opened};
+
+// The number of the first refusal of an opening on a sound image, 0 where there is none.
+fn open_refusal(image: &[u8], confirmation: Confirmation, verdict: u32) -> u32
+    requires { ⌜ sound (now image) ≡ true ⌝ }
+    ensures { λ r. ⌜ r ≡ openRefusal (decode (now (image .entry))) confirmation verdict ⌝ }
+{
+    if verdict != 1 {
+        return 15;
+    }
+    if bad_confirmation(confirmation) {
+        return 16;
+    }
+    if is_held(image, confirmation.id) {
+        return 18;
+    }
+    if counter_count(image) == Image::MAX_COUNTERS {
+        return 19;
+    }
+    let now = clock(image);
+    if confirmation.reading.0 < now.0 - entry_count(image) {
+        return 20;
+    }
+    if bad_opening(confirmation, now) {
+        return 21;
+    }
+    0
+}
+
+// Stores the record of a counter behind the others, and answers with how many there are.
+fn add_record(image: &mut [u8], confirmation: Confirmation) -> u32
+    requires { ⌜ (sound (now image) ≡ true) × (length (decode (now image) .records) < maxCounters) ⌝ }
+    ensures { λ r. ⌜ r ≡ length (decode (now (image .entry)) .records) + 1 ⌝ }
+    ensures { λ _. ⌜ now (image .exit) ≡ encode (opened (decode (now (image .entry))) confirmation) ⌝ }
+{
+    let count = counter_count(image);
+    confirmation.write(image, Image::RECORDS + Confirmation::LEN * (count as usize));
+    put_u32(image, header::COUNTERS, count + 1);
+    count + 1
+}
+
+// Answers 0 and the count of counters, or refuses by 14 to 16 or 18 to 21 with value 0 and the image as it was.
+//
+// Ruled out, among others: a host that takes up a counter that it holds; one that cries a full table at 63 counters.
+pub fn open(image: &mut [u8], confirmation: Confirmation, verdict: u32) -> Figures
+    ensures { λ r. ⌜ r ≡ openCall (now (image .entry)) confirmation verdict .figures ⌝ }
+    ensures { λ _. ⌜ now (image .exit) ≡ openCall (now (image .entry)) confirmation verdict .image ⌝ }
+{
+    if !sound(image) {
+        return Figures {
+            number: 14,
+            value: 0,
+        };
+    }
+    let number = open_refusal(image, confirmation, verdict);
+    if number != 0 {
+        return Figures { number, value: 0 };
+    }
+    let value = add_record(image, confirmation);
+    Figures { number: 0, value }
+}

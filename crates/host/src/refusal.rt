@@ -1,0 +1,57 @@
+// Tests that several calls share, each a part of a row of document 01's table.
+use forms::confirmation::Confirmation;
+use forms::image::Image;
+use forms::nonce;
+use forms::terms::CounterId;
+use forms::terms::GlobalClock;
+use image::header::clock;
+use image::header::entry_count;
+ghost use mathlib.Core.Path.{_≡_};
+ghost use mathlib.Core.Bool.{_||_, not};
+ghost use lib.Dec.{eqb, ltb};
+ghost use lib.ListN.{length};
+ghost use Rattle.forms.specs.Limits.{maxEntries};
+ghost use Rattle.image.specs.State.{decode};
+ghost use Rattle.host.specs.Host.{badNonce, largest};
+
+// 16: a confirmation of no counter, or with a value above its reading.
+pub(crate) fn bad_confirmation(confirmation: Confirmation) -> bool
+    ensures { λ r. ⌜ r ≡ (eqb (confirmation .id .0) 0 || ltb (confirmation .reading .0) (confirmation .value)) ⌝ }
+{
+    confirmation.id.0 == 0 || confirmation.reading.0 < confirmation.value
+}
+
+// 16: a nonce of another length than twenty bytes.
+pub(crate) fn bad_nonce(nonce: &[u8]) -> bool
+    ensures { λ r. ⌜ r ≡ badNonce (now (nonce .entry)) ⌝ }
+{
+    nonce.len() != nonce::LEN
+}
+
+// 16: no counter, or a bad nonce.
+pub(crate) fn bad_request(id: CounterId, nonce: &[u8]) -> bool
+    ensures { λ r. ⌜ r ≡ (eqb (id .0) 0 || badNonce (now (nonce .entry))) ⌝ }
+{
+    id.0 == 0 || bad_nonce(nonce)
+}
+
+// 21: an opening later than the clock, or with a value other than its reading.
+pub(crate) fn bad_opening(confirmation: Confirmation, now: GlobalClock) -> bool
+    ensures { λ r. ⌜ r ≡ (ltb (now .0) (confirmation .reading .0) || not (eqb (confirmation .value) (confirmation .reading .0))) ⌝ }
+{
+    now.0 < confirmation.reading.0 || confirmation.value != confirmation.reading.0
+}
+
+// 24: the log is full.
+pub(crate) fn log_full(image: &[u8]) -> bool
+    ensures { λ r. ⌜ r ≡ eqb (length (decode (now (image .entry)) .log)) maxEntries ⌝ }
+{
+    entry_count(image) == Image::MAX_ENTRIES
+}
+
+// 25: the clock is at its end.
+pub(crate) fn clock_ended(image: &[u8]) -> bool
+    ensures { λ r. ⌜ r ≡ eqb (decode (now (image .entry)) .clock .0) largest ⌝ }
+{
+    clock(image).0 == u32::MAX
+}
