@@ -1,12 +1,14 @@
 /*
- * The desk for C and C++: verifies a validity proof of a counter, document 01's "The desk". (Document 01 calls a counter a box.)
+ * The desk and the host for C and C++: document 01's "The desk", which verifies a validity proof of a counter, and "The host", which keeps
+ * the server's log image and sets such proofs out. (Document 01 calls a counter a box.)
  *
  * To link, on x86-64 Linux, from the top of the repository:
  *
  *     rt staticlib desk
- *     cc -Iinclude prog.c target/staticlib/libdesk.a
+ *     rt staticlib host
+ *     cc -Iinclude prog.c target/staticlib/libhost.a target/staticlib/libdesk.a
  *
- * The archive needs no other library.
+ * A program that only verifies needs only libdesk.a. The archives need no other library.
  */
 #ifndef VMC_H
 #define VMC_H
@@ -76,6 +78,73 @@ vmc_desk_figures vmc_desk_verify(const uint8_t *proof, size_t proof_len,
                                  const uint8_t *verdicts, size_t verdicts_len,
                                  uint32_t id,
                                  const uint8_t *nonce, size_t nonce_len);
+
+/* ---- the host */
+
+/* An image has exactly this many bytes. */
+#define VMC_IMAGE_LEN 33564u
+
+/*
+ * A host call's answer.
+ *
+ * number: 0 where the call is done, else the first of these, in this order, that refuses it.
+ *
+ *     14  the image is not sound; start: it has another length than VMC_IMAGE_LEN
+ *     15  open, increment, confirm: the owner's verdict is not 1
+ *     16  the counter is 0, the nonce is not 20 bytes long, or a confirmation's value is above its reading
+ *     17  the counter is not held (all calls but open that name one)
+ *     18  open: the counter is held already
+ *     19  open: there are 64 counters already
+ *     20  open: the reading is before the log; confirm: it is before the held one
+ *     21  open: the reading is past the clock, or the value is another than the reading; confirm: the reading is past the clock, or the
+ *         value is not the counter's at that reading
+ *     22  increment: the value before is not the counter's current one
+ *     23  last: the counter has no entry with reading t behind its held one
+ *     24  tick, increment: there are 1,024 entries already
+ *     25  tick, increment: the clock is at its end, 4,294,967,295
+ *     26  prove, last: the output is too short for the proof; VMC_PROOF_MAX_LEN bytes are always enough
+ *
+ * value: what the call gives where it is done, else 0. On a refusal image and output are as they were.
+ */
+typedef struct vmc_host_figures {
+    uint32_t number;
+    uint32_t value;
+} vmc_host_figures;
+
+/*
+ * The calls. The image is the caller's to keep: each call gets it as the last one left it, and nobody else writes it. Every call but start
+ * looks first whether it is sound, whatever it holds.
+ *
+ * Each pointer must be to as many bytes as its length says and must not be null even where the length is 0. Image and output are written, so
+ * that no other buffer of the call may overlap them. No pointer is kept, nothing is allocated, and every call returns. verdict is 1 where
+ * the owner's signature holds.
+ */
+
+/* Writes an image with a clock and no counters over whatever the buffer held. Gives the clock. */
+vmc_host_figures vmc_host_start(uint8_t *image, size_t image_len, uint32_t clock);
+
+/* Takes up a counter by its owner's confirmation. Gives how many counters are held. */
+vmc_host_figures vmc_host_open(uint8_t *image, size_t image_len, uint32_t id, uint32_t value, uint32_t reading, uint32_t verdict);
+
+/* The clock's next reading, without a request. Gives the reading. */
+vmc_host_figures vmc_host_tick(uint8_t *image, size_t image_len, const uint8_t *nonce, size_t nonce_len);
+
+/* The clock's next reading, with the request of a counter that states its value before. Gives the reading, the counter's new value. */
+vmc_host_figures vmc_host_increment(uint8_t *image, size_t image_len, const uint8_t *nonce, size_t nonce_len, uint32_t id, uint32_t before,
+                                    uint32_t verdict);
+
+/* Gives a counter's current value. Nothing is written. */
+vmc_host_figures vmc_host_read(const uint8_t *image, size_t image_len, uint32_t id);
+
+/* Writes a proof of kind 1 up to the clock, which was read with the nonce, to the front of the output. Gives its length. */
+vmc_host_figures vmc_host_prove(uint8_t *image, size_t image_len, const uint8_t *nonce, size_t nonce_len, uint32_t id, uint8_t *out,
+                                size_t out_len);
+
+/* Writes a proof of kind 2 up to the counter's entry with reading t to the front of the output. Gives its length. */
+vmc_host_figures vmc_host_last(uint8_t *image, size_t image_len, uint32_t id, uint32_t t, uint8_t *out, size_t out_len);
+
+/* Replaces a counter's confirmation by a later one and drops the entries that no counter needs. Gives how many entries are left. */
+vmc_host_figures vmc_host_confirm(uint8_t *image, size_t image_len, uint32_t id, uint32_t value, uint32_t reading, uint32_t verdict);
 
 #ifdef __cplusplus
 }

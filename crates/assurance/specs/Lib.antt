@@ -1,3 +1,5 @@
+pub mod AcceptLaws
+pub mod AcceptRows
 pub mod Accepted
 pub mod DeskExample
 pub mod DeskFreshness
@@ -7,5 +9,12 @@ pub mod DeskSoundness
 pub mod DeskWitness
 pub mod EntryCounts
 pub mod EntryWalk
+pub mod HostCalls
+pub mod HostList
+pub mod HostListWitness
+pub mod HostProof
+pub mod HostProofs
+pub mod HostSteps
+pub mod HostWitness
 pub mod ListLaws
 pub mod Rows

@@ -4,5 +4,6 @@ pub mod Desk
 pub mod DeskLaws
 pub mod Lowest
 pub mod LowestLaws
+pub mod Passes
 pub mod VerdictsLaws
 pub mod WalkLaws

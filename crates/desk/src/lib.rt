@@ -4,6 +4,7 @@ mod closing;
 mod log;
 mod verdicts;
 pub mod verify;
+mod whole;
 
 use answer::Figures;
 use forms::terms::CounterId;

@@ -5,51 +5,54 @@ use forms::proof::Kind;
 use forms::proof::Proof;
 ghost use mathlib.Core.Path.{_≡_};
 ghost use mathlib.Core.Bool.{false};
-ghost use Prim.Native.Nat.{_≤_};
+ghost use Prim.Native.Nat.{_+_, _*_, _≤_};
+ghost use lib.ListN.{length};
 ghost use Rattle.forms.specs.Limits.{maxEntries};
 ghost use Rattle.forms.specs.Proof.{miscounted};
 ghost use Rattle.desk.specs.Lowest.{lowest};
 ghost use Rattle.desk.specs.Desk.{verdictsBefore, zeroOrOne, badVerdicts, certificateDenied, moduleDenied};
 
 // How many verdicts stand before those of the entries.
-pub(crate) fn count_before(kind: Kind) -> usize
-    ensures { λ r. ⌜ r ≡ verdictsBefore kind ⌝ }
+pub(crate) fn count_before(proof: Proof) -> usize
+    ensures { λ r. ⌜ r ≡ verdictsBefore (proof .kind) ⌝ }
 {
+    let kind = proof.kind;
     match kind {
         Kind::Read => 2,
         Kind::Increment => 1,
     }
 }
 
-// Whether every verdict is 0 or 1.
+// Whether every verdict is 0 or 1. The loop has one way out, so that the compiler tests many bytes at once.
 fn zero_or_one(verdicts: &[u8]) -> bool
     ensures { λ r. ⌜ r ≡ zeroOrOne (now (verdicts .entry)) ⌝ }
 {
     let mut i = 0;
+    let mut fine = true;
     while i < verdicts.len() {
         if 1 < verdicts[i] {
-            return false;
+            fine = false;
         }
         i += 1;
     }
-    true
+    fine
 }
 
 // Check 6: whether the list has another length than the proof's shape asks for, or a byte over 1.
 pub(crate) fn bad(proof: Proof, verdicts: &[u8]) -> bool
     ensures { λ r. ⌜ r ≡ badVerdicts proof (now (verdicts .entry)) ⌝ }
 {
-    let kind = proof.kind;
-    if verdicts.len() != count_before(kind) + 2 * (proof.count as usize) {
+    if verdicts.len() != count_before(proof) + 2 * (proof.count as usize) {
         return true;
     }
     !zero_or_one(verdicts)
 }
 
 // Check 9 at the clock certificate.
-pub(crate) fn certificate_denied(kind: Kind, verdicts: &[u8]) -> bool
-    ensures { λ r. ⌜ r ≡ certificateDenied kind (now (verdicts .entry)) ⌝ }
+pub(crate) fn certificate_denied(proof: Proof, verdicts: &[u8]) -> bool
+    ensures { λ r. ⌜ r ≡ certificateDenied (proof .kind) (now (verdicts .entry)) ⌝ }
 {
+    let kind = proof.kind;
     match kind {
         Kind::Read => byte_at(verdicts, 1) == 0,
         Kind::Increment => false,
@@ -58,14 +61,14 @@ pub(crate) fn certificate_denied(kind: Kind, verdicts: &[u8]) -> bool
 
 // Check 9 at the entries: the place of the first that the module denies, 0 where there is none.
 pub(crate) fn first_denied(verdicts: &[u8], before: usize, count: u32) -> u32
-    requires { ⌜ (before ≤ 2) × (count ≤ maxEntries) ⌝ }
+    requires { ⌜ (before ≤ 2) × (count ≤ maxEntries) × (before + 2 * count ≤ length (now verdicts)) ⌝ }
     ensures { λ r. ⌜ r ≡ lowest (moduleDenied (now (verdicts .entry)) before) count ⌝ }
 {
     let mut at = before;
     let mut place: u32 = 0;
     while place < count {
         place += 1;
-        if byte_at(verdicts, at) == 0 {
+        if verdicts[at] == 0 {
             return place;
         }
         at += 2;

@@ -3,9 +3,7 @@ use crate::answer::Answer;
 use crate::closing::closes_elsewhere;
 use crate::closing::closing_reading;
 use crate::closing::wrong_closing;
-use crate::log::first_unsigned;
-use crate::log::first_wrong_reading;
-use crate::log::walk_values;
+use crate::log::walk_log;
 use crate::verdicts;
 use forms::bytes::byte_at;
 use forms::confirmation::Confirmation;
@@ -16,7 +14,8 @@ use forms::proof::parse;
 use forms::terms::CounterId;
 ghost use mathlib.Core.Path.{_≡_};
 ghost use mathlib.Core.Bool.{false};
-ghost use Rattle.forms.specs.Proof.{miscounted};
+ghost use lib.ListN.{length};
+ghost use Rattle.forms.specs.Proof.{miscounted, proofLen};
 ghost use Rattle.desk.specs.Desk.{badWanted, badConfirmation, judged, verified};
 
 // Check 1: whether what is wanted can't be.
@@ -41,13 +40,9 @@ fn bad_confirmation(confirmation: Confirmation, id: CounterId) -> bool
 
 // Checks 6 to 13, of bytes that read as a proof.
 fn judge(s: &[u8], proof: Proof, verdicts: &[u8], id: CounterId, nonce: &[u8]) -> Answer
-    requires { ⌜ miscounted proof ≡ false ⌝ }
+    requires { ⌜ (miscounted proof ≡ false) × (length (now s) ≡ proofLen proof) ⌝ }
     ensures { λ r. ⌜ r ≡ judged proof (now (s .entry)) (now (verdicts .entry)) id (now (nonce .entry)) ⌝ }
 {
-    let kind = proof.kind;
-    let count = proof.count;
-    let log = proof.log_offset();
-    let before = verdicts::count_before(kind);
     let confirmation = Confirmation::read(s, Proof::CONFIRMATION);
     let start = confirmation.reading;
     if verdicts::bad(proof, verdicts) {
@@ -59,32 +54,29 @@ fn judge(s: &[u8], proof: Proof, verdicts: &[u8], id: CounterId, nonce: &[u8]) -
     if byte_at(verdicts, 0) == 0 {
         return Answer::Refused(8, 0);
     }
-    if verdicts::certificate_denied(kind, verdicts) {
+    if verdicts::certificate_denied(proof, verdicts) {
         return Answer::Refused(9, 0);
     }
-    let denied = verdicts::first_denied(verdicts, before, count);
-    if denied != 0 {
-        return Answer::Refused(9, denied);
+    let found = walk_log(s, proof, verdicts, id, confirmation);
+    if found.denied != 0 {
+        return Answer::Refused(9, found.denied);
     }
     if closes_elsewhere(s, proof, id, nonce) {
         return Answer::Refused(10, 0);
     }
-    let wrong = first_wrong_reading(s, log, count, start);
-    if wrong != 0 {
-        return Answer::Refused(11, wrong);
+    if found.wrong != 0 {
+        return Answer::Refused(11, found.wrong);
     }
     if wrong_closing(s, proof, start) {
-        return Answer::Refused(11, count + 1);
+        return Answer::Refused(11, proof.count + 1);
     }
-    let unsigned = first_unsigned(s, log, verdicts, before, id, count);
-    if unsigned != 0 {
-        return Answer::Refused(12, unsigned);
+    if found.unsigned != 0 {
+        return Answer::Refused(12, found.unsigned);
     }
-    let walk = walk_values(s, log, id, confirmation.value, count);
-    if walk.place != 0 {
-        return Answer::Refused(13, walk.place);
+    if found.walk.place != 0 {
+        return Answer::Refused(13, found.walk.place);
     }
-    Answer::Accepted(walk.value, closing_reading(s, proof))
+    Answer::Accepted(found.walk.running, closing_reading(s, proof))
 }
 
 // The desk's answer to proof, verdicts, wanted counter and wanted nonce. Nothing is asked of the caller, and nothing is written.

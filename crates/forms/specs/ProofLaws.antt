@@ -20,7 +20,7 @@ use Rattle.forms.specs.Proof.{Parsed, knownForm, shapeAt, laidOut, parse
 
 -- ---- limits
 
-or-false-left : (a b : Bool) → (a || b) ≡ false → a ≡ false
+pub or-false-left : (a b : Bool) → (a || b) ≡ false → a ≡ false
 or-false-left true b e = e
 or-false-left false b e = refl
 
@@ -131,6 +131,9 @@ parsed-shape s p e = ap (λ (r : Parsed). shape-of r p) (sym e ∙ reads-parsed 
 -- and its count is within the limits
 pub parsed-counted : (s : List ℕ) (p : Proof) → parsed s ≡ Parsed.Proof p → miscounted p ≡ false
 parsed-counted s p e = ap miscounted (parsed-shape s p e) ∙ parsed-reads s (ap readNumber e) .counted
+
+pub parsed-length : (s : List ℕ) (p : Proof) → parsed s ≡ Parsed.Proof p → length s ≡ proofLen p
+parsed-length s p e = parsed-reads s (ap readNumber e) .laid .lent ∙ ap proofLen (sym (parsed-shape s p e))
 
 -- ---- the parts stored one behind the other
 

@@ -5,7 +5,7 @@ ghost use lib.ListN.{getD};
 ghost use Rattle.forms.specs.Bytes.{overwrite};
 
 // A byte as a number of 32 bits.
-pub(crate) fn wide(b: u8) -> u32
+pub fn wide(b: u8) -> u32
     ensures { λ r. ⌜ (r ≡ b) × (r < 256) ⌝ }
 {
     b as u32

@@ -9,7 +9,7 @@ use Rattle.forms.specs.Chain.{valueAfter}
 use Rattle.forms.specs.Checks.{Row, _gives_, firstOf}
 use Rattle.forms.specs.Entry.{entryOf, logBytes}
 use Rattle.forms.specs.Limits.{nonceLen, imageLen, maxCounters, maxEntries}
-use Rattle.forms.specs.Proof.{Fields, read, increment, shapeOf, proofLen}
+use Rattle.forms.specs.Proof.{Fields, read, increment, shapeOf, proofLen, encode as proofBytes}
 use Rattle.forms.specs.Terms.{counterId, globalClock, sameId}
 use Rattle.forms.specs.declared.confirmation.Confirmation.{Confirmation}
 use Rattle.forms.specs.declared.entry.Entry.{Entry}
@@ -246,3 +246,16 @@ abbrev pub confirmCall : List ℕ → Confirmation → ℕ → Settled
 confirmCall s c verdict =
     let st : State = decode s in
     settled s (confirmRefusal st c verdict) (length (confirmedState st c .log)) (confirmedState st c)
+
+-- ---- the output of prove and last
+
+-- a proof followed by the rest of the old output ("Bytes of the output beyond the proof stay"), or the old output where the call is refused
+unfoldable pub outputFor : Figures → Fields → List ℕ → List ℕ
+outputFor figures fields output =
+    cond (eqb (figures .number) 0) (proofBytes fields ++ drop (proofLen (shapeOf fields)) output) output
+
+abbrev pub proveOutput : List ℕ → List ℕ → CounterId → List ℕ → List ℕ
+proveOutput s nonce id output = outputFor (proveCall s nonce id (length output) .figures) (proofOf (decode s) nonce id) output
+
+abbrev pub lastOutput : List ℕ → CounterId → GlobalClock → List ℕ → List ℕ
+lastOutput s id t output = outputFor (lastCall s id t (length output) .figures) (lastOf (decode s) id t) output

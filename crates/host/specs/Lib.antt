@@ -1,12 +1,15 @@
 pub mod ConfirmLaws
+pub mod ConfirmStores
 pub mod DecodeLaws
 pub mod EachRecordLaws
 pub mod EffectLaws
 pub mod HeldLaws
 pub mod Host
 pub mod IndexLaws
+pub mod LastLaws
 pub mod LogEndsLaws
 pub mod OpenLaws
+pub mod ProveLaws
 pub mod RaiseLaws
 pub mod RefusalLaws
 pub mod SettledLaws

@@ -10,10 +10,11 @@ use borrow.Author.Tests.{eqb-true, eqb-false, eq-eqb, ltb-false, not-false}
 use Rattle.forms.specs.Limits.{nonceLen, maxCounters, maxEntries}
 use Rattle.forms.specs.declared.confirmation.Confirmation.{Confirmation}
 use Rattle.forms.specs.declared.terms.CounterId.{CounterId}
+use Rattle.forms.specs.declared.terms.GlobalClock.{GlobalClock}
 use Rattle.image.specs.State.{State}
 use Rattle.image.specs.Sound.{holds}
 use Rattle.image.specs.PassLaws.{or-left, or-right}
-use Rattle.host.specs.Host.{largest, heldOf, currentOf, valueAt, openRefusal, tickRefusal, incrementRefusal, confirmRefusal}
+use Rattle.host.specs.Host.{largest, heldOf, currentOf, valueAt, openRefusal, tickRefusal, incrementRefusal, confirmRefusal, proveRefusal, lastRefusal, hasEntry, entriesOf}
 
 -- where a table gives 0, a first row with another number was passed over, and the rest gives 0
 pub refusal-passed : (test : Bool) (number others : ℕ) → not (eqb number 0) ≡ true → cond test number others ≡ 0 → (test ≡ false) × (others ≡ 0)
@@ -97,6 +98,47 @@ increment-passed st nonce id before verdict e =
       current = eqb-true before (currentOf st id) (not-false _ (f .0));
       room = eqb-false (length (st .log)) maxEntries (g .0);
       running = eqb-false (st .clock .0) largest (h .0);
+    }
+
+-- ---- prove: 16, 17, 26
+
+pub record ProvePassed (st : State) (nonce : List ℕ) (id : CounterId) (len room : ℕ) : Type 0 where
+  pub named : id .0 ≡ 0 → ⊥
+  pub long : length nonce ≡ nonceLen
+  pub held : holds (st .records) id ≡ true
+  pub fits : len ≤ room
+
+pub prove-passed : (st : State) (nonce : List ℕ) (id : CounterId) (len room : ℕ) → proveRefusal st nonce id len room ≡ 0 → ProvePassed st nonce id len room
+prove-passed st nonce id len room e =
+    let a = refusal-passed _ 16 _ refl e in
+    let b = refusal-passed _ 17 _ refl (a .1) in
+    let d = refusal-passed _ 26 _ refl (b .1) in
+    record {
+      named = eqb-false (id .0) 0 (or-left _ _ (a .0));
+      long = eqb-true (length nonce) nonceLen (not-false _ (or-right (eqb (id .0) 0) _ (a .0)));
+      held = not-false _ (b .0);
+      fits = ltb-false room len (d .0);
+    }
+
+-- ---- last: 16, 17, 23, 26
+
+pub record LastPassed (st : State) (id : CounterId) (t : GlobalClock) (len room : ℕ) : Type 0 where
+  pub named : id .0 ≡ 0 → ⊥
+  pub held : holds (st .records) id ≡ true
+  pub has : hasEntry id t (entriesOf st id) ≡ true
+  pub fits : len ≤ room
+
+pub last-passed : (st : State) (id : CounterId) (t : GlobalClock) (len room : ℕ) → lastRefusal st id t len room ≡ 0 → LastPassed st id t len room
+last-passed st id t len room e =
+    let a = refusal-passed _ 16 _ refl e in
+    let b = refusal-passed _ 17 _ refl (a .1) in
+    let d = refusal-passed _ 23 _ refl (b .1) in
+    let f = refusal-passed _ 26 _ refl (d .1) in
+    record {
+      named = eqb-false (id .0) 0 (a .0);
+      held = not-false _ (b .0);
+      has = not-false _ (d .0);
+      fits = ltb-false room len (f .0);
     }
 
 -- ---- confirm: 15, 16, 17, 20, 21

@@ -1,14 +1,17 @@
 -- Laws of a call on an image: 14, a refusal, and success; and going through a row of refusals one by one. Assumes nothing.
 use mathlib.Core.Path.{_≡_, refl, sym, ap, ap₂, _∙_}
 use Prim.Native.Nat.{ℕ}
+use native.Mathlib.Omega.{arith}
 use mathlib.Core.Bool.{Bool, true, false, cond, _&&_, _||_}
-use mathlib.Core.List.{List}
+use mathlib.Core.List.{List, _++_}
 use lib.Dec.{eqb}
 use borrow.Author.Tests.{eq-eqb, ne-eqb}
+use lib.ListN.{drop}
+use Rattle.forms.specs.Proof.{Fields, shapeOf, proofLen, encode as proofBytes}
 use Rattle.image.specs.State.{State, encode}
 use Rattle.image.specs.Sound.{sound}
 use Rattle.host.specs.declared.answer.Figures.{Figures}
-use Rattle.host.specs.Host.{Settled, answered, settled}
+use Rattle.host.specs.Host.{Settled, answered, settled, outputFor}
 
 -- what is answered where a test is known
 answered-at : (s : List ℕ) (number value : ℕ) {a b : Bool} → sound s ≡ a → eqb number 0 ≡ b
@@ -69,6 +72,41 @@ pub ends-done : (s : List ℕ) (number value : ℕ) (next : State) (shown : ℕ)
     → Ends (settled s number value next) (record { number = 0; value = shown }) image
 ends-done s number value next shown image e none same stored =
     ends _ _ (settled-done s number value next e none ∙ (λ i. record { figures = record { number = 0; value = sym same i }; image = sym stored i }))
+
+-- the output of a call that writes a proof, and of one that is refused
+pub output-done : (figures : Figures) (fields : Fields) (output : List ℕ) → figures .number ≡ 0
+    → proofBytes fields ++ drop (proofLen (shapeOf fields)) output ≡ outputFor figures fields output
+unfolding outputFor
+output-done figures fields output none =
+    sym (ap (λ (b : Bool). cond b (proofBytes fields ++ drop (proofLen (shapeOf fields)) output) output) (eq-eqb (figures .number) 0 none))
+
+pub output-kept : (figures : Figures) (fields : Fields) (output : List ℕ) → (figures .number ≡ 0 → ⊥) → output ≡ outputFor figures fields output
+unfolding outputFor
+output-kept figures fields output some =
+    sym (ap (λ (b : Bool). cond b (proofBytes fields ++ drop (proofLen (shapeOf fields)) output) output) (ne-eqb (figures .number) 0 some))
+
+-- what the code of such a call shows at each of its three ends: figures, image and output
+abbrev WritesEnds : Settled → Fields → List ℕ → Figures → List ℕ → List ℕ → Type 0
+WritesEnds r fields output figures image after = (figures ≡ r .figures) × ((image ≡ r .image) × (after ≡ outputFor (r .figures) fields output))
+
+pub writes-unsound : (s : List ℕ) (number value : ℕ) (next : State) (fields : Fields) (output : List ℕ) → sound s ≡ false
+    → WritesEnds (settled s number value next) fields output (record { number = 14; value = 0 }) s output
+writes-unsound s number value next fields output e =
+    let shown = ends-unsound s number value next e in
+    (shown .0, (shown .1, output-kept _ fields output (λ none. let no : ⊥ = omega (arith, ap (λ (f : Figures). f .number) (shown .0), none) in no)))
+
+pub writes-refused : (s : List ℕ) (number value : ℕ) (next : State) (fields : Fields) (output : List ℕ) (refusal : ℕ) → sound s ≡ true → refusal ≡ number → (refusal ≡ 0 → ⊥)
+    → WritesEnds (settled s number value next) fields output (record { number = refusal; value = 0 }) s output
+writes-refused s number value next fields output refusal e same some =
+    let shown = ends-refused s number value next refusal e same some in
+    (shown .0, (shown .1, output-kept _ fields output (λ none. some (ap (λ (f : Figures). f .number) (shown .0) ∙ none))))
+
+pub writes-done : (s : List ℕ) (number value : ℕ) (next : State) (fields : Fields) (output : List ℕ) (len : ℕ) (image after : List ℕ) → sound s ≡ true → number ≡ 0 → len ≡ value
+    → image ≡ encode next → after ≡ proofBytes fields ++ drop (proofLen (shapeOf fields)) output
+    → WritesEnds (settled s number value next) fields output (record { number = 0; value = len }) image after
+writes-done s number value next fields output len image after e none same stored wrote =
+    let shown = ends-done s number value next len image e none same stored in
+    (shown .0, (shown .1, wrote ∙ output-done _ fields output (sym (ap (λ (f : Figures). f .number) (shown .0)))))
 
 -- a row whose test does not hold is passed over; one whose test holds gives its number
 pub passed : {x : ℕ} (test : Bool) (row others : ℕ) → x ≡ cond test row others → test ≡ false → x ≡ others

@@ -1,7 +1,11 @@
 // The host: keeps the log image. Document 01, "The host".
 pub mod answer;
+mod boundary;
+pub mod confirm;
 mod counter;
+pub mod last;
 pub mod open;
+pub mod prove;
 pub mod raise;
 pub mod read;
 mod refusal;

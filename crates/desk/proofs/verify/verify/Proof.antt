@@ -1,10 +1,9 @@
 -- `desk::verify::verify` meets its contract: check 1, then what the bytes read as, then the later checks. Assumes nothing.
 use mathlib.Core.Path.{_≡_, sym, ap, ap₂, _∙_}
 use mathlib.Core.Bool.{Bool, cond}
-use mathlib.Core.List.{List}
 use borrow.Author.Needs.{needs}
 use Rattle.forms.specs.Proof.{parsed}
-use Rattle.forms.specs.ProofLaws.{parsed-counted}
+use Rattle.forms.specs.ProofLaws.{parsed-counted, parsed-length}
 use Rattle.forms.specs.declared.proof.Parsed.{Parsed}
 use Rattle.forms.specs.declared.proof.Proof.{Proof}
 use Rattle.desk.specs.Answer.{Answer}
@@ -37,7 +36,9 @@ read c p e =
 counted : tie.Need-judge-requires
 counted c κs =
     let parse = c .before .before .before in
-    parsed-counted (start (parse .before .before) .args .proof .now) _ (sym (parse .parse .ensures) ∙ c .before .parsed .given .1)
+    let bytes = start (parse .before .before) .args .proof .now in
+    let e = sym (parse .parse .ensures) ∙ c .before .parsed .given .1 in
+    (parsed-counted bytes _ e, parsed-length bytes _ e)
 
 shown : tie.Need-returns-6
 shown c = c .judge .ensures ∙ read (c .before .before .before .before) _ (c .before .before .parsed .given .1)

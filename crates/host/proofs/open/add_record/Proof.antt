@@ -35,12 +35,12 @@ stored c =
     let counted = written .before .before in
     let a = start counted .args in
     let s = a .image .now in
-    let place : ℕ → List ℕ → List ℕ = λ n l. overwrite l (recordsOffset + recordLen * n) (confirmationBytes (a .confirmation)) in
-    ( ap (λ (n : ℕ). n + 1) (count counted)
-    , c .before .before .put-u32 .ensures
-      ∙ ap (λ (l : List ℕ). overwrite l 8 (digits 4 (counted .counter-count .result + 1))) (written .write .ensures)
-      ∙ ap (λ (n : ℕ). overwrite (place n s) 8 (digits 4 (n + 1))) (count counted)
-      ∙ opening-stored s (bytes counted) (start counted .pre .0) (a .confirmation) (start counted .pre .1)
+    let place : ℕ → List ℕ → List ℕ = λ n l. overwrite l (recordsOffset + recordLen * n) (confirmationBytes (a .confirmation)) in (
+      ap (λ (n : ℕ). n + 1) (count counted),
+      c .before .before .put-u32 .ensures
+          ∙ ap (λ (l : List ℕ). overwrite l 8 (digits 4 (counted .counter-count .result + 1))) (written .write .ensures)
+          ∙ ap (λ (n : ℕ). overwrite (place n s) 8 (digits 4 (n + 1))) (count counted)
+          ∙ opening-stored s (bytes counted) (start counted .pre .0) (a .confirmation) (start counted .pre .1),
     )
 
 pub add-record-spec : {M : Type 1} → statement M

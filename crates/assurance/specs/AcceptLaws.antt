@@ -1,0 +1,171 @@
+-- Fields of either kind that the desk accepts once they are written: the counter's confirmation, the entries after it, one for each reading,
+-- that chain, and a close with the wanted nonce. Assumes nothing.
+use Prim.Native.Nat.{ℕ, suc, _+_, _*_, _^_, _≤_, _<_}
+use mathlib.Core.Path.{_≡_, refl, sym, ap, ap₂, subst, _∙_}
+use mathlib.Core.Bool.{Bool, true, false, not, _||_}
+use mathlib.Core.List.{List, [], _∷_, _++_, append-nil}
+use native.Mathlib.Omega.{arith}
+use lib.ListN.{length, drop, getD, length-append}
+use lib.Seq.{drop-at, take-all}
+use borrow.Author.Tests.{eq-eqb, ne-eqb}
+use Rattle.forms.specs.Bytes.{same, window}
+use Rattle.forms.specs.BytesLaws.{same-refl, window-part}
+use Rattle.forms.specs.Chain.{valueAfter, chains}
+use Rattle.forms.specs.Entry.{entryAt, entriesAt, logBytes}
+use Rattle.forms.specs.Limits.{nonceLen, entryLen, maxEntries}
+use Rattle.forms.specs.PartsLaws.{ConfirmationFits, EntriesFit, entries-drop, entries-snoc, length-entries, log-bytes, length-log}
+use Rattle.forms.specs.Proof.{Fields, read, increment, encode, decode, headerOf, headerBytes, parsed, logOffset}
+use Rattle.forms.specs.RoundTrip.{Taken, Takes, decode-encode, encode-reads}
+use Rattle.forms.specs.declared.certificate.Certificate.{Certificate}
+use Rattle.forms.specs.declared.confirmation.Confirmation.{Confirmation}
+use Rattle.forms.specs.declared.entry.Entry.{Entry}
+use Rattle.forms.specs.declared.proof.Kind.{Kind}
+use Rattle.forms.specs.declared.proof.Parsed.{Parsed}
+use Rattle.forms.specs.declared.terms.CounterId.{CounterId}
+use Rattle.image.specs.Sound.{consecutive}
+use Rattle.desk.specs.declared.answer.Answer.{Answer}
+use Rattle.desk.specs.Desk.{confirmation, certificate, entry, verdictsBefore, badWanted, closesElsewhere, wrongClosing, closing, verified}
+use Rattle.assurance.specs.AcceptRows.{ones, Clean, clean-verified}
+
+-- what a proof set out for a counter says: the counter's confirmation (v, g), and the entries after g, one for each reading, that chain
+pub record SetOut (id : CounterId) (c : Confirmation) (es : List Entry) : Type 0 where
+  pub own : c .id ≡ id
+  pub low : c .value ≤ c .reading .0
+  pub fits : ConfirmationFits c
+  pub few : length es ≤ maxEntries
+  pub entries-fit : EntriesFit es
+  pub steps : consecutive (c .reading .0) es ≡ true
+  pub chain : chains id (c .value) es ≡ true
+
+-- a counter and a nonce that may be asked with
+pub record Wanted (id : CounterId) (nonce : List ℕ) : Type 0 where
+  pub counter : id .0 ≡ 0 → ⊥
+  pub long : length nonce ≡ nonceLen
+
+-- 1
+wanted-passes : (id : CounterId) (nonce : List ℕ) → Wanted id nonce → badWanted id nonce ≡ false
+unfolding badWanted
+wanted-passes id nonce wanted = ap₂ (λ (a b : Bool). a || not b) (ne-eqb (id .0) 0 (wanted .counter)) (eq-eqb (length nonce) nonceLen (wanted .long))
+
+-- a nonce of twenty bytes compares as itself
+nonce-same : (own nonce : List ℕ) → length nonce ≡ nonceLen → own ≡ nonce → not (same own (window nonce 0 nonceLen)) ≡ false
+nonce-same own nonce long e =
+    let whole : window nonce 0 nonceLen ≡ nonce = window-part nonce 0 nonceLen (omega arith) ∙ take-all nonceLen nonce (omega arith) in
+    ap not (ap₂ same e whole ∙ same-refl nonce)
+
+-- entries read back from where they were written
+entries-back : (s : List ℕ) (log : ℕ) (es : List Entry) → EntriesFit es → drop log s ≡ logBytes es → entriesAt s log (length es) ≡ es
+entries-back s log es fit e =
+    let here : log ≡ log + 0 = omega arith in
+    ap (λ (j : ℕ). entriesAt s j (length es)) here
+    ∙ sym (entries-drop s log 0 (length es))
+    ∙ ap (λ (l : List ℕ). entriesAt l 0 (length es)) (e ∙ sym (append-nil (logBytes es)))
+    ∙ log-bytes es [] fit
+
+-- the last of them
+last-back : (s : List ℕ) (log : ℕ) (es front : List Entry) (last : Entry) → entriesAt s log (length es) ≡ es → es ≡ front ++ (last ∷ [])
+    → entry s log (length es) ≡ last
+last-back s log es front last back ends =
+    let n : ℕ = length front in
+    let count : length es ≡ suc n = ap length ends ∙ length-append front (last ∷ []) ∙ (omega arith) in
+    let here : entry s log (length es) ≡ entryAt s (log + entryLen * n) = ap (λ (j : ℕ). entryAt s (log + entryLen * j)) (omega arith) in
+    let both-ways : entriesAt s log n ++ (entryAt s (log + entryLen * n) ∷ []) ≡ front ++ (last ∷ []) =
+    sym (entries-snoc s log n) ∙ ap (entriesAt s log) (sym count) ∙ back ∙ ends in
+    let behind : entryAt s (log + entryLen * n) ∷ [] ≡ last ∷ [] =
+    sym (drop-at (entriesAt s log n) (entryAt s (log + entryLen * n) ∷ []) n (length-entries s log n))
+    ∙ ap (drop n) both-ways
+    ∙ drop-at front (last ∷ []) n refl in
+    here ∙ ap (λ (l : List Entry). getD l 0 last) behind
+
+-- the parts of fields
+confirmationIn : Fields → Confirmation
+confirmationIn (read c k n entries) = c
+confirmationIn (increment c n entries) = c
+
+certificateIn : Certificate → Fields → Certificate
+certificateIn none (read c k n entries) = k
+certificateIn none (increment c n entries) = none
+
+entriesIn : Fields → List ℕ
+entriesIn (read c k n entries) = entries
+entriesIn (increment c n entries) = entries
+
+-- they read back from fields that writing takes, in kind 1
+read-back : (c : Confirmation) (k : Certificate) (n : ℕ) (entries : List ℕ) → Takes (read c k n entries)
+    → (confirmation (encode (read c k n entries)) ≡ c) × (certificate (encode (read c k n entries)) ≡ k) × (drop 60 (encode (read c k n entries)) ≡ entries)
+unfolding confirmationIn certificateIn entriesIn decode encode headerOf headerBytes
+read-back c k n entries takes =
+    let e = decode-encode (read c k n entries) takes in
+    (ap confirmationIn e, ap (certificateIn k) e, ap entriesIn e)
+
+-- and in kind 2
+increment-back : (c : Confirmation) (n : ℕ) (entries : List ℕ) → Takes (increment c n entries)
+    → (confirmation (encode (increment c n entries)) ≡ c) × (drop 36 (encode (increment c n entries)) ≡ entries)
+unfolding confirmationIn entriesIn decode encode headerOf headerBytes
+increment-back c n entries takes =
+    let e = decode-encode (increment c n entries) takes in
+    (ap confirmationIn e, ap entriesIn e)
+
+module _ (id : CounterId) (nonce : List ℕ) (c : Confirmation) (es : List Entry) (set-out : SetOut id c es) (wanted : Wanted id nonce) where
+  -- the bytes that writing takes
+  taken : Taken c (length es) (logBytes es)
+  taken = record { fits = set-out .fits; few = set-out .few; whole = length-log es (set-out .entries-fit) }
+
+  -- bytes from which the confirmation and the entries read back
+  back-clean : (kind : Kind) (s : List ℕ) → confirmation s ≡ c → entriesAt s (logOffset kind) (length es) ≡ es
+      → closesElsewhere (record { kind = kind; count = length es }) s id nonce ≡ false
+      → wrongClosing (record { kind = kind; count = length es }) s ≡ false
+      → Clean kind (length es) s id nonce
+  back-clean kind s confirms entries ends closes =
+      record {
+        own = ap (λ (k : Confirmation). k .id) confirms ∙ set-out .own;
+        low = subst (λ (k : Confirmation). k .value ≤ k .reading .0) (sym confirms) (set-out .low);
+        ends = ends;
+        steps = ap₂ (λ (k : Confirmation) (l : List Entry). consecutive (k .reading .0) l) confirms entries ∙ set-out .steps;
+        closes = closes;
+        chain = ap₂ (λ (k : Confirmation) (l : List Entry). chains id (k .value) l) confirms entries ∙ set-out .chain;
+      }
+
+  -- and what the desk answers to them
+  back-accepted : (kind : Kind) (s : List ℕ) → confirmation s ≡ c → entriesAt s (logOffset kind) (length es) ≡ es
+      → parsed s ≡ Parsed.Proof (record { kind = kind; count = length es })
+      → closesElsewhere (record { kind = kind; count = length es }) s id nonce ≡ false
+      → wrongClosing (record { kind = kind; count = length es }) s ≡ false
+      → verified s (ones (verdictsBefore kind + 2 * length es)) id nonce
+      ≡ Answer.Accepted (valueAfter id (c .value) es) (closing (record { kind = kind; count = length es }) s)
+  back-accepted kind s confirms entries reads ends closes =
+      clean-verified kind (length es) s id nonce (back-clean kind s confirms entries ends closes) (wanted-passes id nonce wanted) reads
+      ∙ ap₂ (λ (k : Confirmation) (l : List Entry). Answer.Accepted (valueAfter id (k .value) l) (closing (record { kind = kind; count = length es }) s))
+      confirms entries
+
+  -- a proof of kind 1, up to the certificate's reading
+  pub read-accepted : (k : Certificate) → k .nonce ≡ nonce → k .reading .0 ≡ c .reading .0 + length es → k .reading .0 < 2 ^ 32
+      → verified (encode (read c k (length es) (logBytes es))) (ones (2 + 2 * length es)) id nonce ≡ Answer.Accepted (valueAfter id (c .value) es) (k .reading)
+  unfolding closesElsewhere wrongClosing closing
+  read-accepted k asked reached fits =
+      let s = encode (read c k (length es) (logBytes es)) in
+      let takes : Takes (read c k (length es) (logBytes es)) = (taken, record { reading = fits; nonce = ap length asked ∙ wanted .long }) in
+      let back = read-back c k (length es) (logBytes es) takes in
+      back-accepted Kind.Read s (back .0) (entries-back s 60 es (set-out .entries-fit) (back .2)) (encode-reads (read c k (length es) (logBytes es)) takes)
+      (nonce-same (certificate s .nonce) nonce (wanted .long) (ap (λ (j : Certificate). j .nonce) (back .1) ∙ asked))
+      (ap not (eq-eqb (certificate s .reading .0) (confirmation s .reading .0 + length es)
+      (ap (λ (j : Certificate). j .reading .0) (back .1) ∙ reached ∙ ap (λ (j : Confirmation). j .reading .0 + length es) (sym (back .0)))))
+      ∙ ap (λ (j : Certificate). Answer.Accepted (valueAfter id (c .value) es) (j .reading)) (back .1)
+
+  -- a proof of kind 2, up to the last entry's reading
+  pub increment-accepted : (front : List Entry) (last : Entry) → es ≡ front ++ (last ∷ []) → last .id ≡ id → last .nonce ≡ nonce
+      → verified (encode (increment c (length es) (logBytes es))) (ones (1 + 2 * length es)) id nonce ≡ Answer.Accepted (valueAfter id (c .value) es) (last .reading)
+  unfolding closesElsewhere wrongClosing closing
+  increment-accepted front last ends own asked =
+      let s = encode (increment c (length es) (logBytes es)) in
+      let some : 1 ≤ length es = omega (arith, ap length ends ∙ length-append front (last ∷ [])) in
+      let takes : Takes (increment c (length es) (logBytes es)) = (taken, some) in
+      let back = increment-back c (length es) (logBytes es) takes in
+      let entries = entries-back s 36 es (set-out .entries-fit) (back .1) in
+      let end : entry s 36 (length es) ≡ last = last-back s 36 es front last entries ends in
+      back-accepted Kind.Increment s (back .0) entries (encode-reads (increment c (length es) (logBytes es)) takes)
+      (ap₂ (λ (a b : Bool). not a || b)
+      (eq-eqb (entry s 36 (length es) .id .0) (id .0) (ap (λ (e : Entry). e .id .0) end ∙ ap (λ (i : CounterId). i .0) own))
+      (nonce-same (entry s 36 (length es) .nonce) nonce (wanted .long) (ap (λ (e : Entry). e .nonce) end ∙ asked)))
+      refl
+      ∙ ap (λ (e : Entry). Answer.Accepted (valueAfter id (c .value) es) (e .reading)) end

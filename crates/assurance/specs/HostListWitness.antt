@@ -1,0 +1,258 @@
+-- The host's claim speaks of something: a list along which prove and last are not refused, so that the desk accepts what they write. From a
+-- start at 100, counter 7 is opened and raised once; prove then shows 101, and last for 101 shows 101. Assumes nothing.
+use Prim.Native.Nat.{ℕ, zero, suc, _+_, _<_}
+use mathlib.Core.Path.{_≡_, refl, ap, subst, _∙_}
+use mathlib.Core.Bool.{Bool, true, cond}
+use mathlib.Core.List.{List, [], _∷_}
+use lib.Dec.{lit<}
+use lib.ListN.{length, getD, take, replicate, length-replicate}
+use borrow.Author.Tests.{eq-eqb}
+use Rattle.forms.specs.Bytes.{Bytes}
+use Rattle.forms.specs.Chain.{step, valueAfter}
+use Rattle.forms.specs.Entry.{entryOf}
+use Rattle.forms.specs.Limits.{nonceLen, imageLen}
+use Rattle.forms.specs.Proof.{shapeOf, proofLen}
+use Rattle.forms.specs.Terms.{counterId, globalClock}
+use Rattle.forms.specs.declared.confirmation.Confirmation.{Confirmation}
+use Rattle.forms.specs.declared.event.Carried.{Carried}
+use Rattle.forms.specs.declared.terms.CounterId.{CounterId}
+use Rattle.forms.specs.declared.terms.GlobalClock.{GlobalClock}
+use Rattle.image.specs.FitLaws.{start-fits, append-entry-fits, store-written-fits, append-record-fits}
+use Rattle.image.specs.ImageRoundTrip.{StateFits, decode-encode, encode-sound}
+use Rattle.image.specs.Sound.{holds, oldest, after, current, soundState}
+use Rattle.image.specs.State.{State, decode, encode}
+use Rattle.host.specs.Host.{Settled, recordOf, currentOf, hasEntry, openRefusal, incrementRefusal, readRefusal, started, opened, raised, counted, proofOf, lastOf, settled, answered, startCall, openCall, incrementCall, readCall, proveCall, lastCall, proveOutput, lastOutput, proveRefusal, lastRefusal}
+use Rattle.host.specs.OpenLaws.{opened-sound}
+use Rattle.host.specs.RaiseLaws.{started-sound, counted-sound, incremented-sound}
+use Rattle.host.specs.SettledLaws.{answered-done, settled-done}
+use Rattle.host.specs.declared.answer.Figures.{Figures}
+use Rattle.assurance.specs.HostList.{HostCall, Taken, Runs}
+use Rattle.assurance.specs.HostProof.{host-claim}
+use Rattle.assurance.specs.HostProofs.{requestNonce}
+
+-- ---- the list
+
+-- "A byte b stands for a nonce of 20 bytes b"
+abbrev nonceOf : ℕ → List ℕ
+nonceOf b = replicate {A = ℕ} nonceLen b
+
+repeated-byte : (n b k : ℕ) → b < 256 → getD (replicate n b) k 0 < 256
+repeated-byte zero b k small = lit< tt
+repeated-byte (suc n) b zero small = small
+repeated-byte (suc n) b (suc k) small = repeated-byte n b k small
+
+nonce-bytes : (b : ℕ) → b < 256 → Bytes (nonceOf b)
+unfolding Bytes
+nonce-bytes b small = λ k. repeated-byte nonceLen b k small
+
+abbrev seven : CounterId
+seven = counterId 7
+
+-- opened at the clock of the start
+abbrev signed : Confirmation
+signed = record { id = seven; value = 100; reading = globalClock 100 }
+
+-- room for a proof of one entry
+abbrev room : List ℕ
+room = replicate {A = ℕ} 92 0
+
+-- the buffer that start is handed
+blank : List ℕ
+blank = replicate {A = ℕ} imageLen 0
+
+blank-long : length blank ≡ imageLen
+unfolding blank
+blank-long = length-replicate {A = ℕ} imageLen 0
+
+abbrev proving : HostCall
+proving = HostCall.prove (nonceOf 2) seven room
+
+abbrev lasting : HostCall
+lasting = HostCall.last seven (globalClock 101) room
+
+abbrev raising : HostCall
+raising = HostCall.increment (nonceOf 1) seven 100 1
+
+abbrev pub calls : List HostCall
+calls = HostCall.«open» signed 1 ∷ raising ∷ proving ∷ lasting ∷ []
+
+-- ---- the states along it
+
+abbrev begun : State
+begun = started (globalClock 100)
+
+abbrev holding : State
+holding = opened begun signed
+
+abbrev asked : State
+asked = raised holding (Carried.Request seven 100) (nonceOf 1)
+
+abbrev shown : State
+shown = counted asked
+
+-- none of the calls is refused
+open-passes : openRefusal begun signed 1 ≡ 0
+unfolding holds
+open-passes = refl
+
+raise-passes : incrementRefusal holding (nonceOf 1) seven 100 1 ≡ 0
+unfolding holds recordOf current oldest after valueAfter step
+raise-passes = refl
+
+-- the lengths of the proofs: a header, a confirmation, for prove a certificate, and an entry
+abbrev proveLen : State → ℕ
+proveLen st = proofLen (shapeOf (proofOf st (nonceOf 2) seven))
+
+abbrev lastLen : State → ℕ
+lastLen st = proofLen (shapeOf (lastOf st seven (globalClock 101)))
+
+prove-long : proveLen asked ≡ 92
+unfolding recordOf oldest after
+prove-long = refl
+
+last-long : lastLen shown ≡ 68
+unfolding recordOf oldest after
+last-long = refl
+
+prove-passes : proveRefusal asked (nonceOf 2) seven (proveLen asked) (length room) ≡ 0
+unfolding holds recordOf oldest after
+prove-passes = refl
+
+last-passes : lastRefusal shown seven (globalClock 101) (lastLen shown) (length room) ≡ 0
+unfolding holds recordOf oldest after hasEntry entryOf
+last-passes = refl
+
+read-passes : readRefusal asked seven ≡ 0
+unfolding holds
+read-passes = refl
+
+-- every state is sound and fits
+begun-fits : StateFits begun
+begun-fits = start-fits (globalClock 100) (lit< tt)
+
+holding-fits : StateFits holding
+holding-fits = append-record-fits begun begun-fits signed (record { id = lit< tt; value = lit< tt; reading = lit< tt }) (lit< tt)
+
+asked-fits : StateFits asked
+unfolding entryOf
+asked-fits =
+    append-entry-fits holding holding-fits (entryOf (globalClock 101) (Carried.Request seven 100) (nonceOf 1)) (globalClock 101)
+    (record { reading = lit< tt; nonce = refl; id = lit< tt; before = lit< tt }) (nonce-bytes 1 (lit< tt)) (lit< tt) (lit< tt)
+
+shown-fits : StateFits shown
+shown-fits = store-written-fits asked asked-fits 1 (lit< tt)
+
+begun-sound : soundState begun ≡ true
+begun-sound = started-sound (globalClock 100)
+
+holding-sound : soundState holding ≡ true
+holding-sound = opened-sound begun signed 1 begun-sound open-passes
+
+asked-sound : soundState asked ≡ true
+asked-sound = incremented-sound holding (nonceOf 1) seven 100 1 holding-sound raise-passes
+
+shown-sound : soundState shown ≡ true
+shown-sound = counted-sound asked asked-sound
+
+-- ---- the images along it
+
+-- a call on the image of a state works on that state
+works : (st : State) → StateFits st → soundState st ≡ true → (number value : State → ℕ) (next : State → State) → number st ≡ 0
+    → settled (encode st) (number (decode (encode st))) (value (decode (encode st))) (next (decode (encode st)))
+    ≡ record { figures = record { number = 0; value = value st }; image = encode (next st) }
+works st fits is number value next none =
+    ap (λ (x : State). settled (encode st) (number x) (value x) (next x)) (decode-encode st fits)
+    ∙ settled-done (encode st) (number st) (value st) (next st) (encode-sound st fits is) none
+
+-- after start
+begun-image : startCall blank (globalClock 100) .image ≡ encode begun
+unfolding startCall
+begun-image =
+    ap (λ (b : Bool). cond {A = Settled} b
+    (record { figures = record { number = 0; value = 100 }; image = encode begun })
+    (record { figures = record { number = 14; value = 0 }; image = blank }) .image)
+    (eq-eqb (length blank) imageLen blank-long)
+
+-- after open
+holding-image : openCall (encode begun) signed 1 .image ≡ encode holding
+holding-image =
+    ap (λ (r : Settled). r .image)
+    (works begun begun-fits begun-sound (λ st. openRefusal st signed 1) (λ st. length (st .records) + 1) (λ st. opened st signed) open-passes)
+
+-- after the increment
+asked-image : incrementCall (encode holding) (nonceOf 1) seven 100 1 .image ≡ encode asked
+asked-image =
+    ap (λ (r : Settled). r .image)
+    (works holding holding-fits holding-sound (λ st. incrementRefusal st (nonceOf 1) seven 100 1) (λ st. st .clock .0 + 1)
+    (λ st. raised st (Carried.Request seven 100) (nonceOf 1)) raise-passes)
+
+-- what prove answers, and the image after it
+prove-ends : proveCall (encode asked) (nonceOf 2) seven (length room) ≡ record { figures = record { number = 0; value = proveLen asked }; image = encode shown }
+prove-ends = works asked asked-fits asked-sound (λ st. proveRefusal st (nonceOf 2) seven (proveLen st) (length room)) proveLen counted prove-passes
+
+-- what last answers
+last-ends : lastCall (encode shown) seven (globalClock 101) (length room)
+    ≡ record { figures = record { number = 0; value = lastLen shown }; image = encode (counted shown) }
+last-ends = works shown shown-fits shown-sound (λ st. lastRefusal st seven (globalClock 101) (lastLen st) (length room)) lastLen counted last-passes
+
+-- what read shows where prove is called
+read-shows : readCall (encode asked) seven .value ≡ 101
+unfolding holds recordOf current oldest after valueAfter step entryOf
+read-shows =
+    ap (λ (f : Figures). f .value)
+    (ap (λ (st : State). answered (encode asked) (readRefusal st seven) (currentOf st seven)) (decode-encode asked asked-fits)
+    ∙ answered-done (encode asked) (readRefusal asked seven) (currentOf asked seven) (encode-sound asked asked-fits asked-sound) read-passes)
+
+-- ---- what the claim says along it
+
+from-start : Runs (encode begun) calls
+from-start = subst (λ (s : List ℕ). Runs s calls) begun-image (host-claim blank (globalClock 100) calls blank-long (lit< tt))
+
+from-open : Runs (encode holding) (raising ∷ proving ∷ lasting ∷ [])
+unfolding Runs
+from-open =
+    subst (λ (s : List ℕ). Runs s (raising ∷ proving ∷ lasting ∷ [])) holding-image
+    (from-start (record { id = lit< tt; value = lit< tt; reading = lit< tt }) .2)
+
+from-raise : Runs (encode asked) (proving ∷ lasting ∷ [])
+unfolding Runs
+from-raise =
+    subst (λ (s : List ℕ). Runs s (proving ∷ lasting ∷ [])) asked-image (from-open (nonce-bytes 1 (lit< tt), lit< tt, lit< tt) .2)
+
+from-prove : Runs (encode shown) (lasting ∷ [])
+unfolding Runs
+from-prove =
+    subst (λ (s : List ℕ). Runs s (lasting ∷ [])) (ap (λ (r : Settled). r .image) prove-ends) (from-raise (nonce-bytes 2 (lit< tt), lit< tt) .2)
+
+-- what is claimed of prove's output: at a length, for the proof of a state, with a value
+abbrev ByProve : ℕ → State → ℕ → Type 0
+ByProve n st value =
+    Taken (take n (proveOutput (encode asked) (nonceOf 2) seven room)) (proofOf st (nonceOf 2) seven) seven (nonceOf 2) value (st .clock)
+
+-- the desk accepts the 92 bytes that prove wrote, and shows 101 at 101
+pub proof-taken : Taken (take 92 (proveOutput (encode asked) (nonceOf 2) seven room)) (proofOf asked (nonceOf 2) seven) seven (nonceOf 2) 101 (globalClock 101)
+unfolding Runs
+proof-taken =
+    let number = ap (λ (r : Settled). r .figures .number) prove-ends in
+    let value = ap (λ (r : Settled). r .figures .value) prove-ends ∙ prove-long in
+    let len : ℕ = proveCall (encode asked) (nonceOf 2) seven (length room) .figures .value in
+    let there = from-raise (nonce-bytes 2 (lit< tt), lit< tt) .0 number .1 in
+    subst (λ (n : ℕ). ByProve n asked 101) value
+    (subst (ByProve len asked) read-shows
+    (subst (λ (st : State). ByProve len st (readCall (encode asked) seven .value)) (decode-encode asked asked-fits) there))
+
+-- the same of last's
+abbrev ByLast : ℕ → State → Type 0
+ByLast n st =
+    let t : GlobalClock = globalClock 101 in
+    Taken (take n (lastOutput (encode shown) seven t room)) (lastOf st seven t) seven (requestNonce seven t (st .log)) 101 t
+
+-- and the 68 bytes that last wrote, under the nonce of the increment
+pub last-taken : Taken (take 68 (lastOutput (encode shown) seven (globalClock 101) room)) (lastOf shown seven (globalClock 101)) seven (nonceOf 1) 101 (globalClock 101)
+unfolding Runs requestNonce entryOf
+last-taken =
+    let number = ap (λ (r : Settled). r .figures .number) last-ends in
+    let value = ap (λ (r : Settled). r .figures .value) last-ends ∙ last-long in
+    let len : ℕ = lastCall (encode shown) seven (globalClock 101) (length room) .figures .value in
+    let there = from-prove (lit< tt) .0 number in
+    subst (λ (n : ℕ). ByLast n shown) value (subst (ByLast len) (decode-encode shown shown-fits) there)

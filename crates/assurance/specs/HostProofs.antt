@@ -1,0 +1,285 @@
+-- The proofs that an honest host sets out are accepted: from a sound state, all verdicts yes, `prove`'s shows the counter's current value at
+-- the clock, and `last`'s shows the t asked for. Document 01, "The host"; the host's half of demand 3, at one state. Assumes nothing.
+use Prim.Native.Nat.{ℕ, zero, suc, _+_, _-_, _^_, _≤_, _<_}
+use mathlib.Core.Path.{_≡_, refl, sym, ap, ap₂, _∙_}
+use mathlib.Core.Bool.{Bool, true, false, cond, _&&_, _||_, true≢false, false≢true, and-false}
+use mathlib.Core.List.{List, [], _∷_, _++_}
+use native.Mathlib.Omega.{arith}
+use lib.Dec.{eqb, leb}
+use lib.ListN.{length, take, drop, length-take, length-drop, take-append-drop}
+use borrow.Author.Tests.{eqb-true, eq-eqb, ne-eqb, leb-true}
+use Rattle.forms.specs.Chain.{valueAfter, chains}
+use Rattle.forms.specs.ChainLaws.{chains-append, value-snoc, step-own}
+use Rattle.forms.specs.Limits.{nonceLen, maxEntries}
+use Rattle.forms.specs.PartsLaws.{EntryFits, EntriesFit, none, one-more}
+use Rattle.forms.specs.Proof.{Fields, shapeOf, encode}
+use Rattle.forms.specs.ProofLaws.{both}
+use Rattle.forms.specs.Terms.{globalClock, sameId}
+use Rattle.forms.specs.declared.confirmation.Confirmation.{Confirmation}
+use Rattle.forms.specs.declared.entry.Entry.{Entry}
+use Rattle.forms.specs.declared.terms.CounterId.{CounterId}
+use Rattle.forms.specs.declared.terms.GlobalClock.{GlobalClock}
+use Rattle.image.specs.State.{Record, State}
+use Rattle.image.specs.Sound.{holds, distinct, bounded, oldest, consecutive, base, spanned, named, after, chained, current, soundState}
+use Rattle.image.specs.LookupLaws.{zero-unheld}
+use Rattle.desk.specs.declared.answer.Answer.{Answer}
+use Rattle.desk.specs.Desk.{verdictCount, verified}
+use Rattle.host.specs.LastLaws.{consecutive-drop}
+use Rattle.host.specs.Host.{recordOf, heldOf, entriesOf, currentOf, hasEntry, proofOf, lastEntries, lastOf}
+use Rattle.assurance.specs.AcceptLaws.{SetOut, read-accepted, increment-accepted}
+use Rattle.assurance.specs.AcceptRows.{ones}
+use Rattle.assurance.specs.Rows.{same-id}
+
+-- what the fields of an image hold: a clock and entries of 32 bits, and no more entries than it has room for
+pub record StateFits (st : State) : Type 0 where
+  pub clock : st .clock .0 < 2 ^ 32
+  pub log : EntriesFit (st .log)
+  pub few : length (st .log) ≤ maxEntries
+
+-- a verdict list for the proof written from some fields, all yes
+abbrev pub allYes : Fields → List ℕ
+allYes fields = ones (verdictCount (shapeOf fields))
+
+-- the nonce of the counter's request in the entry with reading t
+unfoldable pub requestNonce : CounterId → GlobalClock → List Entry → List ℕ
+requestNonce id t [] = []
+requestNonce id t (e ∷ es) = cond (sameId (e .id) id && eqb (e .reading .0) (t .0)) (e .nonce) (requestNonce id t es)
+
+-- ---- some of the entries
+
+-- the first of consecutive entries are consecutive
+pub consecutive-take : (g : ℕ) (es : List Entry) (k : ℕ) → consecutive g es ≡ true → consecutive g (take k es) ≡ true
+unfolding consecutive
+consecutive-take g es zero steps = refl
+consecutive-take g [] (suc k) steps = refl
+consecutive-take g (e ∷ es) (suc k) steps =
+    let parts = both (eqb (e .reading .0) (g + 1)) (consecutive (g + 1) es) steps in
+    ap₂ _&&_ (parts .0) (consecutive-take (g + 1) es k (parts .1))
+
+-- entries that fit their widths do so after a reading
+pub fit-drop : (es : List Entry) (k : ℕ) → EntriesFit es → EntriesFit (drop k es)
+fit-drop es zero fit = fit
+fit-drop [] (suc k) fit = fit
+fit-drop (e ∷ es) (suc k) (one-more fits more) = fit-drop es k more
+
+-- and up to one
+pub fit-take : (es : List Entry) (k : ℕ) → EntriesFit es → EntriesFit (take k es)
+fit-take es zero fit = none
+fit-take [] (suc k) fit = none
+fit-take (e ∷ es) (suc k) (one-more fits more) = one-more fits (fit-take es k more)
+
+-- the first of entries that chain do so too
+pub chains-take : (id : CounterId) (value : ℕ) (es : List Entry) (k : ℕ) → chains id value es ≡ true → chains id value (take k es) ≡ true
+chains-take id value es k chain =
+    both (chains id value (take k es)) (chains id (valueAfter id value (take k es)) (drop k es))
+    (sym (chains-append id value (take k es) (drop k es)) ∙ ap (chains id value) (take-append-drop k es) ∙ chain) .0
+
+-- a proof up to an earlier entry
+pub set-out-take : (id : CounterId) (c : Confirmation) (es : List Entry) (k : ℕ) → SetOut id c es → SetOut id c (take k es)
+set-out-take id c es k set-out =
+    record {
+      own = set-out .own;
+      low = set-out .low;
+      fits = set-out .fits;
+      few = simp length-take (omega (arith, set-out .few));
+      entries-fit = fit-take es k (set-out .entries-fit);
+      steps = consecutive-take (c .reading .0) es k (set-out .steps);
+      chain = chains-take id (c .value) es k (set-out .chain);
+    }
+
+-- ---- a counter's record
+
+-- what soundness says of the record of a held counter
+pub record HeldRecord (clock : GlobalClock) (rs : List Record) (from : ℕ) (log : List Entry) (id : CounterId) (r : Record) : Type 0 where
+  pub own : r .held .id ≡ id
+  pub low : r .held .value ≤ r .held .reading .0
+  pub high : r .held .reading .0 ≤ clock .0
+  pub old : oldest clock rs ≤ r .held .reading .0
+  pub chain : chains (r .held .id) (r .held .value) (after from (r .held .reading) log) ≡ true
+
+-- the record looked up is such a one
+pub held-record : (clock : GlobalClock) (rs : List Record) (from : ℕ) (log : List Entry) (id : CounterId)
+    → holds rs id ≡ true → bounded clock rs ≡ true → chained from log rs ≡ true → HeldRecord clock rs from log id (recordOf rs id)
+unfolding holds recordOf bounded chained oldest
+held-record clock [] from log id held bound chain = absurd (false≢true held)
+held-record clock (r ∷ rs) from log id held bound chain =
+    let first = both (leb (r .held .value) (r .held .reading .0)) (leb (r .held .reading .0) (clock .0) && bounded clock rs) bound in
+    let second = both (leb (r .held .reading .0) (clock .0)) (bounded clock rs) (first .1) in
+    let links = both (chains (r .held .id) (r .held .value) (after from (r .held .reading) log)) (chained from log rs) chain in
+    go (leb-true (r .held .value) (r .held .reading .0) (first .0)) (leb-true (r .held .reading .0) (clock .0) (second .0)) (links .0)
+    (sameId (r .held .id) id) refl held (λ among. held-record clock rs from log id among (second .1) (links .1))
+  where
+    go : r .held .value ≤ r .held .reading .0 → r .held .reading .0 ≤ clock .0
+        → chains (r .held .id) (r .held .value) (after from (r .held .reading) log) ≡ true
+        → (own : Bool) → sameId (r .held .id) id ≡ own → (own || holds rs id) ≡ true
+        → (holds rs id ≡ true → HeldRecord clock rs from log id (recordOf rs id))
+        → HeldRecord clock (r ∷ rs) from log id (cond own r (recordOf rs id))
+    go low high link true is held others =
+        record { own = same-id (r .held .id) id is; low = low; high = high; old = omega arith; chain = link }
+    go low high link false is held others =
+        let there = others held in
+        record { own = there .own; low = there .low; high = there .high; old = omega (arith, there .old); chain = there .chain }
+
+-- ---- the entry asked for
+
+-- where the counter's entry with reading t is, among entries consecutive from g: it ends those up to t
+record Found (id : CounterId) (t : GlobalClock) (g : ℕ) (es : List Entry) : Type 0 where
+  front : List Entry
+  last : Entry
+  later : g < t .0
+  cut : take (t .0 - g) es ≡ front ++ (last ∷ [])
+  own : last .id ≡ id
+  reads : last .reading ≡ t
+  asked : last .nonce ≡ requestNonce id t es
+  fits : EntryFits last
+
+-- it is there where the host finds it
+found : (id : CounterId) (t : GlobalClock) (g : ℕ) (es : List Entry) → EntriesFit es → consecutive g es ≡ true → hasEntry id t es ≡ true → Found id t g es
+unfolding hasEntry consecutive requestNonce
+found id t g [] fit steps has = absurd (false≢true has)
+found id t g (e ∷ es) (one-more fits more) steps has =
+    let parts = both (eqb (e .reading .0) (g + 1)) (consecutive (g + 1) es) steps in
+    go (eqb-true (e .reading .0) (g + 1) (parts .0)) (sameId (e .id) id && eqb (e .reading .0) (t .0)) refl has
+    (λ among. found id t (g + 1) es more (parts .1) among)
+  where
+    go : e .reading .0 ≡ g + 1 → (here : Bool) → (sameId (e .id) id && eqb (e .reading .0) (t .0)) ≡ here → (here || hasEntry id t es) ≡ true
+        → (hasEntry id t es ≡ true → Found id t (g + 1) es) → Found id t g (e ∷ es)
+    go next true is has others =
+        let same = both (sameId (e .id) id) (eqb (e .reading .0) (t .0)) is in
+        let reads : e .reading .0 ≡ t .0 = eqb-true (e .reading .0) (t .0) (same .1) in
+        let one : t .0 - g ≡ 1 = omega arith in
+        record {
+          front = [];
+          last = e;
+          later = omega arith;
+          cut = ap (λ (k : ℕ). take k (e ∷ es)) one;
+          own = same-id (e .id) id (same .0);
+          reads = ap globalClock reads;
+          asked = sym (ap (λ (b : Bool). cond b (e .nonce) (requestNonce id t es)) is);
+          fits = fits;
+        }
+    go next false is has others =
+        let there = others has in
+        let one-more-in : t .0 - g ≡ suc (t .0 - (g + 1)) = omega (arith, there .later) in
+        record {
+          front = e ∷ there .front;
+          last = there .last;
+          later = omega (arith, there .later);
+          cut = ap (λ (k : ℕ). take k (e ∷ es)) one-more-in ∙ ap (λ (l : List Entry). e ∷ l) (there .cut);
+          own = there .own;
+          reads = there .reads;
+          asked = there .asked ∙ sym (ap (λ (b : Bool). cond b (e .nonce) (requestNonce id t es)) is);
+          fits = there .fits;
+        }
+
+-- no entry up to an earlier reading is the one with reading t
+request-later : (id : CounterId) (t : GlobalClock) (g : ℕ) (es : List Entry) (k : ℕ) → consecutive g es ≡ true → g + k < t .0
+    → requestNonce id t (drop k es) ≡ requestNonce id t es
+unfolding consecutive requestNonce
+request-later id t g es zero steps less = refl
+request-later id t g [] (suc k) steps less = refl
+request-later id t g (e ∷ es) (suc k) steps less =
+    let parts = both (eqb (e .reading .0) (g + 1)) (consecutive (g + 1) es) steps in
+    let next : e .reading .0 ≡ g + 1 = eqb-true (e .reading .0) (g + 1) (parts .0) in
+    let other : (sameId (e .id) id && eqb (e .reading .0) (t .0)) ≡ false =
+    ap (λ (b : Bool). sameId (e .id) id && b) (ne-eqb (e .reading .0) (t .0) (λ same. omega arith)) ∙ and-false (sameId (e .id) id) in
+    request-later id t (g + 1) es k (parts .1) (omega arith)
+    ∙ sym (ap (λ (b : Bool). cond b (e .nonce) (requestNonce id t es)) other)
+
+-- ---- the proofs set out from a sound state
+
+-- the clauses of soundness that speak of a counter
+record Clauses (st : State) : Type 0 where
+  differ : distinct (st .records) ≡ true
+  bound : bounded (st .clock) (st .records) ≡ true
+  span : base st + length (st .log) ≡ st .clock .0
+  steps : consecutive (base st) (st .log) ≡ true
+  chain : chained (base st) (st .log) (st .records) ≡ true
+
+-- a sound state has them
+clauses : (st : State) → soundState st ≡ true → Clauses st
+unfolding soundState spanned
+clauses st sound =
+    let first = both (distinct (st .records)) _ sound in
+    let second = both (bounded (st .clock) (st .records)) _ (first .1) in
+    let third = both (spanned st) _ (second .1) in
+    let fourth = both (named (st .records) (st .log)) _ (third .1) in
+    let span = both (eqb (base st + length (st .log)) (st .clock .0)) (consecutive (base st) (st .log)) (third .0) in
+    record {
+      differ = first .0;
+      bound = second .0;
+      span = eqb-true (base st + length (st .log)) (st .clock .0) (span .0);
+      steps = span .1;
+      chain = fourth .1;
+    }
+
+module _ (st : State) (id : CounterId) (sound : soundState st ≡ true) (fits : StateFits st) (id-fits : id .0 < 2 ^ 32) (held : holds (st .records) id ≡ true) where
+  -- the counter's record
+  record-is : HeldRecord (st .clock) (st .records) (base st) (st .log) id (recordOf (st .records) id)
+  record-is =
+      let parts = clauses st sound in
+      held-record (st .clock) (st .records) (base st) (st .log) id held (parts .bound) (parts .chain)
+
+  -- a held counter is not 0
+  counter-some : id .0 ≡ 0 → ⊥
+  counter-some zero-id = true≢false (sym held ∙ zero-unheld (st .records) id (clauses st sound .differ) zero-id)
+
+  -- how many entries stand after its held reading
+  pub entries-count : st .clock .0 ≡ heldOf st id .reading .0 + length (entriesOf st id)
+  unfolding after
+  entries-count =
+      let r = record-is in
+      let c = clauses st sound in
+      simp length-drop (omega (arith, r .old, r .high, c .span))
+
+  -- they are what a proof for the counter says
+  pub entries-set-out : SetOut id (heldOf st id) (entriesOf st id)
+  unfolding after
+  entries-set-out =
+      let r = record-is in
+      let c = clauses st sound in
+      let from : base st + (heldOf st id .reading .0 - base st) ≡ heldOf st id .reading .0 = omega (arith, r .old) in
+      let same : heldOf st id .id .0 ≡ id .0 = ap (λ (i : CounterId). i .0) (r .own) in
+      record {
+        own = r .own;
+        low = r .low;
+        fits = record { id = omega arith; value = omega (arith, r .low, r .high, fits .clock); reading = omega (arith, r .high, fits .clock) };
+        few = simp length-drop (omega (arith, fits .few));
+        entries-fit = fit-drop (st .log) (heldOf st id .reading .0 - base st) (fits .log);
+        steps =
+            ap (λ (g : ℕ). consecutive g (entriesOf st id)) (sym from)
+            ∙ consecutive-drop (base st) (st .log) (heldOf st id .reading .0 - base st) (omega (arith, r .old, r .high, c .span)) (c .steps);
+        chain = ap (λ (i : CounterId). chains i (heldOf st id .value) (entriesOf st id)) (sym (r .own)) ∙ r .chain;
+      }
+
+  -- the desk accepts what `prove` sets out, and shows the current value at the clock
+  pub prove-accepted : (nonce : List ℕ) → length nonce ≡ nonceLen
+      → verified (encode (proofOf st nonce id)) (allYes (proofOf st nonce id)) id nonce ≡ Answer.Accepted (currentOf st id) (st .clock)
+  unfolding current
+  prove-accepted nonce long =
+      read-accepted id nonce (heldOf st id) (entriesOf st id) entries-set-out (record { counter = counter-some; long = long })
+      (record { reading = st .clock; nonce = nonce }) refl entries-count (fits .clock)
+      ∙ ap (λ (i : CounterId). Answer.Accepted (valueAfter i (heldOf st id .value) (entriesOf st id)) (st .clock)) (sym (record-is .own))
+
+  -- the desk accepts what `last` sets out for the nonce of the counter's request in entry t, and shows t
+  pub last-accepted : (t : GlobalClock) → hasEntry id t (entriesOf st id) ≡ true
+      → verified (encode (lastOf st id t)) (allYes (lastOf st id t)) id (requestNonce id t (st .log)) ≡ Answer.Accepted (t .0) t
+  unfolding after
+  last-accepted t has =
+      let r = record-is in
+      let set-out = entries-set-out in
+      let f = found id t (heldOf st id .reading .0) (entriesOf st id) (set-out .entries-fit) (set-out .steps) has in
+      let c = heldOf st id in
+      let later : base st + (c .reading .0 - base st) < t .0 = omega (arith, r .old, f .later) in
+      let asked : f .last .nonce ≡ requestNonce id t (st .log) =
+      f .asked ∙ request-later id t (base st) (st .log) (c .reading .0 - base st) (clauses st sound .steps) later in
+      let value : valueAfter id (c .value) (lastEntries st id t) ≡ t .0 =
+      ap (valueAfter id (c .value)) (f .cut)
+      ∙ value-snoc id (c .value) (f .front) (f .last)
+      ∙ step-own id (valueAfter id (c .value) (f .front)) (f .last) (eq-eqb (f .last .id .0) (id .0) (ap (λ (i : CounterId). i .0) (f .own)))
+      ∙ ap (λ (g : GlobalClock). g .0) (f .reads) in
+      increment-accepted id (requestNonce id t (st .log)) c (lastEntries st id t)
+      (set-out-take id c (entriesOf st id) (t .0 - c .reading .0) set-out)
+      (record { counter = counter-some; long = ap length (sym asked) ∙ f .fits .nonce })
+      (f .front) (f .last) (f .cut) (f .own) asked
+      ∙ ap₂ Answer.Accepted value (f .reads)

@@ -1,0 +1,233 @@
+-- Each call of the host leaves an image that is kept: bytes, sound, and of an image's length. So no call along a list finds the image
+-- unsound. Document 01, "The host"; the host's half of demand 3. Assumes nothing.
+use Prim.Native.Nat.{ℕ, suc, _+_, _-_, _^_, _<_}
+use mathlib.Core.Path.{_≡_, refl, sym, ap, subst}
+use mathlib.Core.Bool.{Bool, true, false, not, cond, _&&_}
+use mathlib.Core.List.{List, [], _∷_}
+use native.Mathlib.Omega.{arith}
+use lib.Dec.{eqb}
+use lib.ListN.{length}
+use borrow.Author.Tests.{eqb-true, eqb-false, eq-eqb, not-true}
+use Rattle.forms.specs.Bytes.{Bytes}
+use Rattle.forms.specs.Checks.{Row, firstOf}
+use Rattle.forms.specs.Entry.{entryOf}
+use Rattle.forms.specs.Limits.{nonceLen, imageLen, maxEntries}
+use Rattle.forms.specs.PartsLaws.{ConfirmationFits}
+use Rattle.forms.specs.Proof.{shapeOf, proofLen}
+use Rattle.forms.specs.ProofLaws.{both}
+use Rattle.forms.specs.Terms.{sameId, globalClock}
+use Rattle.forms.specs.declared.confirmation.Confirmation.{Confirmation}
+use Rattle.forms.specs.declared.event.Carried.{Carried}
+use Rattle.forms.specs.declared.terms.CounterId.{CounterId}
+use Rattle.forms.specs.declared.terms.GlobalClock.{GlobalClock}
+use Rattle.image.specs.FitLaws.{start-fits, append-entry-fits, store-clock-fits, store-written-fits, append-record-fits, drop-entries-fits}
+use Rattle.image.specs.ImageParts.{RecordsFit}
+use Rattle.image.specs.ImageRoundTrip.{StateFits, length-encode, encode-bytes, encode-sound, decode-fits, sound-decode, sound-laid-out}
+use Rattle.image.specs.Sound.{oldest, base, soundState, sound}
+use Rattle.image.specs.State.{Record, State, decode, encode}
+use Rattle.host.specs.ConfirmLaws.{confirmed-sound}
+use Rattle.host.specs.EffectLaws.{clock-runs, entry-room, record-room}
+use Rattle.host.specs.Host.{Settled, largest, openRefusal, tickRefusal, incrementRefusal, confirmRefusal, openRows, tickRows, incrementRows, readRows, proveRows, lastRows, confirmRows, started, opened, raised, noneHeld, advanced, ticked, counted, replaced, confirmedState, settled, startCall, readRefusal, currentOf, proofOf, lastOf, proveRefusal, lastRefusal, readCall}
+use Rattle.host.specs.OpenLaws.{opened-sound}
+use Rattle.host.specs.RaiseLaws.{started-sound, counted-sound, incremented-sound, ticked-sound}
+use Rattle.host.specs.RefusalLaws.{open-passed, tick-passed, increment-passed}
+use Rattle.host.specs.SettledLaws.{settled-refused, settled-done}
+use Rattle.assurance.specs.HostList.{HostCall, settledBy, Widths}
+
+-- ---- what is kept
+
+-- an image that every call may be handed
+pub record Kept (s : List ℕ) : Type 0 where
+  pub bytes : Bytes s
+  pub is-sound : sound s ≡ true
+  pub long : length s ≡ imageLen
+
+-- a state whose image is such a one
+abbrev Steady : State → Type 0
+Steady st = (soundState st ≡ true) × StateFits st
+
+steady-kept : (st : State) → Steady st → Kept (encode st)
+steady-kept st steady =
+    record { bytes = encode-bytes st (steady .1); is-sound = encode-sound st (steady .1) (steady .0); long = length-encode st (steady .1) }
+
+-- and the state of such an image
+kept-steady : (s : List ℕ) → Kept s → Steady (decode s)
+kept-steady s kept = (sound-decode s (kept .is-sound), decode-fits s (kept .bytes) (sound-laid-out s (kept .is-sound)))
+
+-- a call that did not find the image unsound, and that leaves one that is kept
+pub record Steps (r : Settled) : Type 0 where
+  pub found-sound : r .figures .number ≡ 14 → ⊥
+  pub kept : Kept (r .image)
+
+-- a refusal leaves the image, and success leaves that of the next state
+settled-steps : (s : List ℕ) (number value : ℕ) (next : State) → Kept s → (number ≡ 14 → ⊥) → (number ≡ 0 → Steady next)
+    → Steps (settled s number value next)
+settled-steps s number value next kept other steady = go (eqb number 0) refl
+  where
+    go : (b : Bool) → eqb number 0 ≡ b → Steps (settled s number value next)
+    go true is =
+        let none : number ≡ 0 = eqb-true number 0 is in
+        subst Steps (sym (settled-done s number value next (kept .is-sound) none))
+        (record { found-sound = λ e. omega arith; kept = steady-kept next (steady none) })
+    go false is =
+        subst Steps (sym (settled-refused s number value next (kept .is-sound) (eqb-false number 0 is)))
+        (record { found-sound = other; kept = kept })
+
+-- ---- no refusal is 14
+
+-- the rows of a table give other numbers
+abbrev apart : List (Row ℕ) → Bool
+apart [] = true
+apart (row ∷ rows) = not (eqb (row .answer) 14) && apart rows
+
+-- so that the first whose test holds does too, and 0 where there is none
+rows-other : (rows : List (Row ℕ)) → apart rows ≡ true → firstOf rows 0 ≡ 14 → ⊥
+rows-other [] others e = omega arith
+rows-other (row ∷ rows) others e =
+    let parts = both (not (eqb (row .answer) 14)) (apart rows) others in
+    go (row .test) (parts .0) (rows-other rows (parts .1)) e
+  where
+    go : (b : Bool) → not (eqb (row .answer) 14) ≡ true → (firstOf rows 0 ≡ 14 → ⊥) → cond b (row .answer) (firstOf rows 0) ≡ 14 → ⊥
+    go true own rest e = eqb-false (row .answer) 14 (not-true (eqb (row .answer) 14) own) e
+    go false own rest e = rest e
+
+-- ---- start
+
+pub start-steps : (s : List ℕ) (clock : GlobalClock) → length s ≡ imageLen → clock .0 < 2 ^ 32 → Steps (startCall s clock)
+unfolding startCall
+start-steps s clock long small =
+    subst (λ (b : Bool). Steps (cond b
+    (record { figures = record { number = 0; value = clock .0 }; image = encode (started clock) })
+    (record { figures = record { number = 14; value = 0 }; image = s })))
+    (sym (eq-eqb (length s) imageLen long))
+    (record { found-sound = λ e. omega arith; kept = steady-kept (started clock) (started-sound clock, start-fits clock small) })
+
+-- ---- the next state of a call that is not refused
+
+-- what an increment carries, in its widths
+abbrev CarriedFits : Carried → Type 0
+CarriedFits (Carried.Request id before) = (id .0 < 2 ^ 32) × (before < 2 ^ 32)
+CarriedFits Carried.Tick = Unit {0}
+
+-- clock + 1 and the new entry fit
+raised-fits : (st : State) (carried : Carried) (nonce : List ℕ) → StateFits st → Bytes nonce → length nonce ≡ nonceLen → CarriedFits carried
+    → st .clock .0 < largest → length (st .log) < maxEntries → StateFits (raised st carried nonce)
+unfolding entryOf
+raised-fits st (Carried.Request id before) nonce fits bytes long carried running room =
+    append-entry-fits st fits (entryOf (globalClock (st .clock .0 + 1)) (Carried.Request id before) nonce) (globalClock (st .clock .0 + 1))
+    (record { reading = omega arith; nonce = long; id = carried .0; before = carried .1 }) bytes (omega arith) room
+raised-fits st Carried.Tick nonce fits bytes long carried running room =
+    append-entry-fits st fits (entryOf (globalClock (st .clock .0 + 1)) Carried.Tick nonce) (globalClock (st .clock .0 + 1))
+    (record { reading = omega arith; nonce = long; id = omega arith; before = omega arith }) bytes (omega arith) room
+
+-- a record replaced: the records fit still
+replaced-fit : (rs : List Record) (c : Confirmation) → RecordsFit rs → ConfirmationFits c → RecordsFit (replaced rs c)
+unfolding replaced
+replaced-fit [] c fit fits = fit
+replaced-fit (r ∷ rs) c (RecordsFit.one-more first fit) fits = go (sameId (r .held .id) (c .id)) (replaced-fit rs c fit fits)
+  where
+    go : (b : Bool) → RecordsFit (replaced rs c) → RecordsFit (cond b (record { held = c } ∷ rs) (r ∷ replaced rs c))
+    go true others = RecordsFit.one-more fits fit
+    go false others = RecordsFit.one-more first others
+
+-- and they are as many
+replaced-length : (rs : List Record) (c : Confirmation) → length (replaced rs c) ≡ length rs
+unfolding replaced
+replaced-length [] c = refl
+replaced-length (r ∷ rs) c = go (sameId (r .held .id) (c .id)) (replaced-length rs c)
+  where
+    go : (b : Bool) → length (replaced rs c) ≡ length rs → length (cond b (record { held = c } ∷ rs) (r ∷ replaced rs c)) ≡ length (r ∷ rs)
+    go true others = refl
+    go false others = ap suc others
+
+module _ (s : List ℕ) (kept : Kept s) where
+  state-sound : soundState (decode s) ≡ true
+  state-sound = kept-steady s kept .0
+
+  state-fits : StateFits (decode s)
+  state-fits = kept-steady s kept .1
+
+  open-steady : (c : Confirmation) (verdict : ℕ) → ConfirmationFits c → openRefusal (decode s) c verdict ≡ 0 → Steady (opened (decode s) c)
+  open-steady c verdict fits none =
+      let p = open-passed (decode s) c verdict none in
+      (opened-sound (decode s) c verdict state-sound none, append-record-fits (decode s) state-fits c fits (record-room s (kept .bytes) (kept .is-sound) (p .room)))
+
+  tick-steady : (nonce : List ℕ) → Bytes nonce → tickRefusal (decode s) nonce ≡ 0 → Steady (ticked (decode s) nonce)
+  tick-steady nonce bytes none = (ticked-sound (decode s) nonce state-sound, go (noneHeld (decode s)))
+    where
+      running : decode s .clock .0 < largest
+      running = clock-runs s (kept .bytes) (kept .is-sound) (tick-passed (decode s) nonce none .running)
+
+      room : length (decode s .log) < maxEntries
+      room = entry-room s (kept .bytes) (kept .is-sound) (tick-passed (decode s) nonce none .room)
+
+      go : (b : Bool) → StateFits (cond b (advanced (decode s)) (raised (decode s) Carried.Tick nonce))
+      go true = store-clock-fits (decode s) state-fits (globalClock (decode s .clock .0 + 1)) (omega (arith, running))
+      go false = raised-fits (decode s) Carried.Tick nonce state-fits bytes (tick-passed (decode s) nonce none .long) tt running room
+
+  increment-steady : (nonce : List ℕ) (id : CounterId) (before verdict : ℕ) → Bytes nonce → id .0 < 2 ^ 32 → before < 2 ^ 32
+      → incrementRefusal (decode s) nonce id before verdict ≡ 0 → Steady (raised (decode s) (Carried.Request id before) nonce)
+  increment-steady nonce id before verdict bytes id-fits before-fits none =
+      let p = increment-passed (decode s) nonce id before verdict none in (
+        incremented-sound (decode s) nonce id before verdict state-sound none,
+        raised-fits (decode s) (Carried.Request id before) nonce state-fits bytes (p .long) (id-fits, before-fits)
+            (clock-runs s (kept .bytes) (kept .is-sound) (p .running)) (entry-room s (kept .bytes) (kept .is-sound) (p .room)),
+      )
+
+  -- the count of proofs stops at the largest number of 32 bits
+  counted-steady : Steady (counted (decode s))
+  counted-steady = (counted-sound (decode s) state-sound, store-written-fits (decode s) state-fits _ (omega arith))
+
+  confirm-steady : (c : Confirmation) (verdict : ℕ) → ConfirmationFits c → confirmRefusal (decode s) c verdict ≡ 0 → Steady (confirmedState (decode s) c)
+  confirm-steady c verdict fits none =
+      let st : State = decode s in
+      let rs : List Record = replaced (st .records) c in
+      let dropped = drop-entries-fits st state-fits (oldest (st .clock) rs - base st) in (
+        confirmed-sound st c verdict state-sound none,
+        record {
+          clock = dropped .clock;
+          records = replaced-fit (st .records) c (state-fits .records) fits;
+          counters = omega (arith, replaced-length (st .records) c, state-fits .counters);
+          log = dropped .log;
+          entries = dropped .entries;
+          bytes = dropped .bytes;
+          written = dropped .written;
+        },
+      )
+
+  -- read answers as a call that stores
+  read-other : (id : CounterId) → readCall s id .number ≡ 14 → ⊥
+  unfolding settled
+  read-other id =
+      settled-steps s (readRefusal (decode s) id) (currentOf (decode s) id) (decode s) kept (rows-other (readRows (decode s) id) refl)
+      (λ none. kept-steady s kept) .found-sound
+
+  -- ---- every call
+
+  pub call-steps : (c : HostCall) → Widths c → Steps (settledBy s c)
+  call-steps (HostCall.start clock) widths = start-steps s clock (kept .long) widths
+  call-steps (HostCall.«open» c verdict) widths =
+      settled-steps s (openRefusal (decode s) c verdict) _ _ kept
+      (rows-other (openRows (decode s) c verdict) refl)
+      (open-steady c verdict widths)
+  call-steps (HostCall.tick nonce) widths =
+      settled-steps s (tickRefusal (decode s) nonce) _ _ kept
+      (rows-other (tickRows (decode s) nonce) refl)
+      (tick-steady nonce widths)
+  call-steps (HostCall.increment nonce id before verdict) widths =
+      settled-steps s (incrementRefusal (decode s) nonce id before verdict) _ _ kept
+      (rows-other (incrementRows (decode s) nonce id before verdict) refl)
+      (increment-steady nonce id before verdict (widths .0) (widths .1) (widths .2))
+  call-steps (HostCall.read id) widths = record { found-sound = read-other id; kept = kept }
+  call-steps (HostCall.prove nonce id output) widths =
+      settled-steps s (proveRefusal (decode s) nonce id _ (length output)) _ _ kept
+      (rows-other (proveRows (decode s) nonce id (proofLen (shapeOf (proofOf (decode s) nonce id))) (length output)) refl)
+      (λ none. counted-steady)
+  call-steps (HostCall.last id t output) widths =
+      settled-steps s (lastRefusal (decode s) id t _ (length output)) _ _ kept
+      (rows-other (lastRows (decode s) id t (proofLen (shapeOf (lastOf (decode s) id t))) (length output)) refl)
+      (λ none. counted-steady)
+  call-steps (HostCall.confirm c verdict) widths =
+      settled-steps s (confirmRefusal (decode s) c verdict) _ _ kept
+      (rows-other (confirmRows (decode s) c verdict) refl)
+      (confirm-steady c verdict widths)
