@@ -121,7 +121,7 @@ fn given(
 }
 
 // The desk's answer to the case with a log and verdicts.
-pub fn case(label: &[u8], case: Case, log: &[u32], digits: &[u8]) {
+pub(crate) fn case(label: &[u8], case: Case, log: &[u32], digits: &[u8]) {
     let mut entries = [0u8; ENTRIES_ROOM];
     let mut proof = [0u8; PROOF_ROOM];
     let mut verdicts = [0u8; VERDICTS_ROOM];

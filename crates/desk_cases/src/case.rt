@@ -33,7 +33,7 @@ fn figure(figures: &[u32], i: usize) -> u32 {
 }
 
 impl Case {
-    pub fn of(figures: &[u32]) -> Self {
+    pub(crate) fn of(figures: &[u32]) -> Self {
         Case {
             kind: figure(figures, 0),
             confirmed: figure(figures, 1),

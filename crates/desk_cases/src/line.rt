@@ -1,11 +1,11 @@
 // A printed line: words, and figures with a space before each.
 use libc::STDOUT_FILENO;
 
-pub fn text(words: &[u8]) {
+pub(crate) fn text(words: &[u8]) {
     io::write_all(STDOUT_FILENO, words);
 }
 
-pub fn figure(figure: u32) {
+pub(crate) fn figure(figure: u32) {
     text(b" ");
     io::print_decimal(STDOUT_FILENO, figure as u64);
 }

@@ -3,12 +3,12 @@ ghost use Prim.Native.Nat.{_≤_};
 ghost use lib.ListN.{length};
 
 // The first bytes, or all where there are no more.
-pub fn front(s: &[u8], len: usize) -> &[u8] {
+pub(crate) fn front(s: &[u8], len: usize) -> &[u8] {
     if len < s.len() { &s[0..len] } else { s }
 }
 
 // The bytes from a place on and up to another, or all where these are no places of the slice.
-pub fn between(s: &[u8], from: usize, to: usize) -> &[u8] {
+pub(crate) fn between(s: &[u8], from: usize, to: usize) -> &[u8] {
     if to < from {
         return s;
     }
@@ -19,7 +19,7 @@ pub fn between(s: &[u8], from: usize, to: usize) -> &[u8] {
 }
 
 // The first place of a byte from a place on, or the length where there is none.
-pub fn find(s: &[u8], from: usize, byte: u8) -> usize
+pub(crate) fn find(s: &[u8], from: usize, byte: u8) -> usize
     requires { ⌜ from ≤ length (now s) ⌝ }
     ensures { λ r. ⌜ (from ≤ r) × (r ≤ length (now (s .entry))) ⌝ }
 {

@@ -89,7 +89,7 @@ fn row(line: &[u8]) {
     );
 }
 
-pub fn run(text: &[u8]) {
+pub(crate) fn run(text: &[u8]) {
     let mut from: usize = 0;
     while from < text.len() {
         let end = find(text, from, b'\n');

@@ -11,7 +11,7 @@ fn wide(byte: u8) -> u64
     byte as u64
 }
 
-pub fn of(s: &[u8]) -> u64 {
+pub(crate) fn of(s: &[u8]) -> u64 {
     let mut sum: u64 = 1;
     let mut i = 0;
     while i < s.len() {
@@ -21,10 +21,10 @@ pub fn of(s: &[u8]) -> u64 {
     sum
 }
 
-pub fn print(s: &[u8]) {
+pub(crate) fn print(s: &[u8]) {
     line::number(of(s));
 }
 
-pub fn print_nonce(nonce: Nonce) {
+pub(crate) fn print_nonce(nonce: Nonce) {
     print(&nonce);
 }

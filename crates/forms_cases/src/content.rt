@@ -69,7 +69,7 @@ fn misread(entries: &mut [u8]) {
     wrong_readings(entries);
 }
 
-pub fn run(entries: &[u8]) {
+pub(crate) fn run(entries: &[u8]) {
     confirmations(entries);
     let mut wrong = [0u8; Entry::LEN * 2];
     misread(&mut wrong);

@@ -183,7 +183,7 @@ fn each_length(kind: u32, most: usize, entries: &[u8]) {
     line::end();
 }
 
-pub fn run(entries: &[u8]) {
+pub(crate) fn run(entries: &[u8]) {
     accepted(entries);
     too_short(entries);
     unknown_form(entries);

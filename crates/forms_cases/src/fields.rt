@@ -15,7 +15,7 @@ use forms::proof::parse;
 use forms::proof::parse_number;
 
 // Prints id, value and reading.
-pub fn confirmation(s: &[u8]) {
+pub(crate) fn confirmation(s: &[u8]) {
     let read = Confirmation::read(s, Proof::CONFIRMATION);
     line::text(b"confirmation:");
     line::figure(read.id.0);
@@ -25,7 +25,7 @@ pub fn confirmation(s: &[u8]) {
 }
 
 // Prints the reading, and whether the nonce is the one written and whether it is another.
-pub fn certificate(s: &[u8], at: usize) {
+pub(crate) fn certificate(s: &[u8], at: usize) {
     let nonce = sample::nonce(sample::CERTIFICATE_SEED);
     let other = sample::other(sample::CERTIFICATE_SEED);
     line::text(b"certificate:");
@@ -92,7 +92,7 @@ fn entries(s: &[u8], log: usize, count: u32) {
 }
 
 // Prints the fields of bytes that read as a proof.
-pub fn all(s: &[u8]) {
+pub(crate) fn all(s: &[u8]) {
     let Parsed::Proof(proof) = parse(s) else {
         return;
     };
@@ -106,7 +106,7 @@ pub fn all(s: &[u8]) {
 }
 
 // Prints document 01's number for reading the bytes, and the number of entries.
-pub fn reading(s: &[u8]) {
+pub(crate) fn reading(s: &[u8]) {
     let parsed = parse(s);
     line::figure(parse_number(parsed));
     let Parsed::Proof(proof) = parsed else {

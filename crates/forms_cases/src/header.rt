@@ -15,7 +15,7 @@ pub struct Header {
 
 impl Header {
     // The header of a read's proof with one entry.
-    pub fn read() -> Self {
+    pub(crate) fn read() -> Self {
         Header {
             form: 1,
             kind: 1,
@@ -28,7 +28,7 @@ impl Header {
     }
 
     // The header of an increment's proof with one entry.
-    pub fn increment() -> Self {
+    pub(crate) fn increment() -> Self {
         Header {
             form: 1,
             kind: 2,
@@ -40,42 +40,42 @@ impl Header {
         }
     }
 
-    pub fn with_form(mut self, form: u32) -> Self {
+    pub(crate) fn with_form(mut self, form: u32) -> Self {
         self.form = form;
         self
     }
 
-    pub fn with_kind(mut self, kind: u32) -> Self {
+    pub(crate) fn with_kind(mut self, kind: u32) -> Self {
         self.kind = kind;
         self
     }
 
-    pub fn with_length(mut self, length: u32) -> Self {
+    pub(crate) fn with_length(mut self, length: u32) -> Self {
         self.length = length;
         self
     }
 
-    pub fn with_confirmation(mut self, offset: u32) -> Self {
+    pub(crate) fn with_confirmation(mut self, offset: u32) -> Self {
         self.confirmation = offset;
         self
     }
 
-    pub fn with_certificate(mut self, offset: u32) -> Self {
+    pub(crate) fn with_certificate(mut self, offset: u32) -> Self {
         self.certificate = offset;
         self
     }
 
-    pub fn with_log(mut self, offset: u32) -> Self {
+    pub(crate) fn with_log(mut self, offset: u32) -> Self {
         self.log = offset;
         self
     }
 
-    pub fn with_count(mut self, count: u32) -> Self {
+    pub(crate) fn with_count(mut self, count: u32) -> Self {
         self.count = count;
         self
     }
 
-    pub fn write(self, s: &mut [u8]) {
+    pub(crate) fn write(self, s: &mut [u8]) {
         put_u16(s, 0, self.form);
         put_u16(s, 2, self.kind);
         put_u32(s, 4, self.length);
@@ -85,7 +85,7 @@ impl Header {
         put_u32(s, 20, self.count);
     }
 
-    pub fn print(self) {
+    pub(crate) fn print(self) {
         line::text(b" form");
         line::figure(self.form);
         line::text(b" kind");

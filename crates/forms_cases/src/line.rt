@@ -1,24 +1,24 @@
 // A printed line: words, and figures with a space before each.
 use libc::STDOUT_FILENO;
 
-pub fn text(words: &[u8]) {
+pub(crate) fn text(words: &[u8]) {
     io::write_all(STDOUT_FILENO, words);
 }
 
-pub fn number(figure: u64) {
+pub(crate) fn number(figure: u64) {
     text(b" ");
     io::print_decimal(STDOUT_FILENO, figure);
 }
 
-pub fn figure(figure: u32) {
+pub(crate) fn figure(figure: u32) {
     number(figure as u64);
 }
 
-pub fn size(figure: usize) {
+pub(crate) fn size(figure: usize) {
     number(figure as u64);
 }
 
-pub fn verdict(holds: bool) {
+pub(crate) fn verdict(holds: bool) {
     if holds {
         text(b" yes");
     } else {
@@ -26,6 +26,6 @@ pub fn verdict(holds: bool) {
     }
 }
 
-pub fn end() {
+pub(crate) fn end() {
     text(b"\n");
 }

@@ -114,7 +114,7 @@ fn order(entries: &[u8]) {
     case(2, 1, 33, 0, entries);
 }
 
-pub fn run(entries: &[u8]) {
+pub(crate) fn run(entries: &[u8]) {
     unknown_kind(entries);
     bad_count(entries);
     bad_entries(entries);

@@ -34,7 +34,7 @@ fn written(
 }
 
 // Writes the first of the entries given.
-pub fn case(
+pub(crate) fn case(
     kind: u32,
     confirmation: Confirmation,
     certificate: Certificate,
@@ -56,7 +56,7 @@ fn sampled(kind: u32, count: u32, entries: &[u8]) {
     );
 }
 
-pub fn run(entries: &[u8]) {
+pub(crate) fn run(entries: &[u8]) {
     sampled(1, 0, entries);
     sampled(1, 1, entries);
     sampled(1, 2, entries);

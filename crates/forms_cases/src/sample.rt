@@ -24,21 +24,21 @@ const READING: u32 = 0x090A0B0C;
 
 pub const CERTIFICATE_SEED: u8 = 0xF8;
 
-pub fn confirmation() -> Confirmation {
+pub(crate) fn confirmation() -> Confirmation {
     Confirmation::new(CounterId(0x01020304), 0x05060708, GlobalClock(READING))
 }
 
-pub fn certificate() -> Certificate {
+pub(crate) fn certificate() -> Certificate {
     Certificate::new(GlobalClock(0x0D0E0F10), nonce(CERTIFICATE_SEED))
 }
 
 // The byte behind, with 0 behind 255.
-pub fn next(byte: u8) -> u8 {
+pub(crate) fn next(byte: u8) -> u8 {
     if byte < 255 { byte + 1 } else { 0 }
 }
 
 // Twenty bytes that count up from the seed.
-pub fn nonce(seed: u8) -> Nonce {
+pub(crate) fn nonce(seed: u8) -> Nonce {
     let mut nonce = [0u8; LEN];
     let mut byte = seed;
     let mut i: usize = 0;
@@ -51,13 +51,13 @@ pub fn nonce(seed: u8) -> Nonce {
 }
 
 // The same nonce but for its last byte.
-pub fn other(seed: u8) -> Nonce {
+pub(crate) fn other(seed: u8) -> Nonce {
     let mut other = nonce(seed);
     other[LEN - 1] = seed;
     other
 }
 
-pub fn entry_seed(place: u32) -> u8 {
+pub(crate) fn entry_seed(place: u32) -> u8 {
     (place % 256) as u8
 }
 
@@ -73,13 +73,13 @@ fn carried(place: u32) -> Carried {
 }
 
 // The entry at a place of the log, from 0.
-pub fn entry(place: u32) -> Entry {
+pub(crate) fn entry(place: u32) -> Entry {
     let reading = GlobalClock(READING + 1 + place % 65536);
     Entry::new(reading, carried(place), nonce(entry_seed(place)))
 }
 
 // Stores the entries from place 0 on.
-pub fn fill(entries: &mut [u8]) {
+pub(crate) fn fill(entries: &mut [u8]) {
     let mut place: u32 = 0;
     while place < ENTRIES {
         entry(place).write(entries, Entry::LEN * (place as usize));
