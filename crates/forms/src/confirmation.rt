@@ -17,9 +17,10 @@ pub struct Confirmation {
 impl Confirmation {
     pub const LEN: usize = 12;
 
-    const VALUE: usize = 4;
+    // Where value and reading stand in it.
+    pub const VALUE: usize = 4;
 
-    const READING: usize = 8;
+    pub const READING: usize = 8;
 
     pub fn new(id: CounterId, value: u32, reading: GlobalClock) -> Self
         ensures { λ r. ⌜ r ≡ record { id = id; value = value; reading = reading } ⌝ }

@@ -1,5 +1,7 @@
 pub mod FitLaws
 pub mod FrameLaws
+pub mod HintLaws
+pub mod Hints
 pub mod ImageParts
 pub mod ImageRoundTrip
 pub mod LogLaws
