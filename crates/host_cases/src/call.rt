@@ -1,0 +1,107 @@
+// A line's word and figures, and the host's call that they stand for.
+use crate::figures;
+use crate::many;
+use crate::part::between;
+use crate::part::find;
+use crate::part::front;
+use crate::part::least;
+use forms::bytes::byte_at;
+use forms::confirmation::Confirmation;
+use forms::nonce::LEN;
+use forms::terms::CounterId;
+use forms::terms::GlobalClock;
+use host::answer::Figures;
+use host::confirm::confirm;
+use host::last::last;
+use host::open::open;
+use host::prove::prove;
+use host::raise::increment;
+use host::raise::tick;
+use host::read::read;
+use host::start::start;
+
+const FIGURES: usize = 5;
+
+// Room for a nonce that is one byte too long.
+const NONCE_ROOM: usize = LEN + 1;
+
+// The first letter of a line's word, and its figures in order, 0 where there is none.
+pub struct Call {
+    pub word: u8,
+    pub first: u32,
+    pub second: u32,
+    pub third: u32,
+    pub fourth: u32,
+    pub fifth: u32,
+}
+
+impl Call {
+    fn new(word: u8, figures: [u32; FIGURES]) -> Self {
+        Call {
+            word,
+            first: figures[0],
+            second: figures[1],
+            third: figures[2],
+            fourth: figures[3],
+            fifth: figures[4],
+        }
+    }
+
+    // The line up to its equals sign, behind which stands what is expected.
+    pub(crate) fn of(line: &[u8]) -> Self {
+        let space = find(line, 0, b' ');
+        let end = find(line, space, b'=');
+        let mut given = [0u32; FIGURES];
+        figures::read(between(line, space, end), &mut given);
+        Call::new(byte_at(line, 0), given)
+    }
+}
+
+fn confirmation(call: Call) -> Confirmation {
+    Confirmation::new(CounterId(call.first), call.second, GlobalClock(call.third))
+}
+
+fn ticked(image: &mut [u8], call: Call) -> Figures {
+    let nonce = [(call.first % 256) as u8; NONCE_ROOM];
+    tick(image, front(&nonce, call.second as usize))
+}
+
+fn incremented(image: &mut [u8], call: Call) -> Figures {
+    let nonce = [(call.first % 256) as u8; NONCE_ROOM];
+    let lent = front(&nonce, call.second as usize);
+    increment(image, lent, CounterId(call.third), call.fourth, call.fifth)
+}
+
+fn proved(image: &mut [u8], call: Call, out: &mut [u8]) -> Figures {
+    let nonce = [(call.first % 256) as u8; NONCE_ROOM];
+    let lent = front(&nonce, call.second as usize);
+    let room = least(call.fourth as usize, out.len());
+    prove(image, lent, CounterId(call.third), &mut out[0..room])
+}
+
+fn proved_last(image: &mut [u8], call: Call, out: &mut [u8]) -> Figures {
+    let room = least(call.third as usize, out.len());
+    last(
+        image,
+        CounterId(call.first),
+        GlobalClock(call.second),
+        &mut out[0..room],
+    )
+}
+
+// The answer of a line's call: `start clock`, `open id value reading verdict`, `tick byte length`, `inc byte length id before verdict`,
+// `read id`, `prove byte length id room`, `last id t room`, `confirm id value reading verdict`, and those of many.rt.
+pub(crate) fn made(call: Call, image: &mut [u8], out: &mut [u8]) -> Figures {
+    let word = call.word;
+    match word {
+        b's' => start(image, GlobalClock(call.first)),
+        b'o' => open(image, confirmation(call), call.fourth),
+        b't' => ticked(image, call),
+        b'i' => incremented(image, call),
+        b'r' => read(image, CounterId(call.first)),
+        b'p' => proved(image, call, out),
+        b'l' => proved_last(image, call, out),
+        b'c' => confirm(image, confirmation(call), call.fourth),
+        _ => many::made(image, call),
+    }
+}

@@ -1,0 +1,67 @@
+// The table of cases. A line with a call (call.rt) has an equals sign and what is expected, worked out by hand, which this program leaves
+// alone; `each` stands for every call but start. The other lines are printed as they are: a label behind `#`; an empty line; `byte place
+// number` and `word place number`, which change one and four bytes of the image; `keep` and `undo`, which keep a copy of the image and
+// bring it back; and `give length`, from which on so many bytes of the image's buffer are lent.
+use crate::answer;
+use crate::call::Call;
+use crate::line;
+use crate::part::between;
+use crate::part::find;
+use forms::bytes::byte_at;
+use forms::bytes::put;
+use forms::image::Image;
+use forms::number::put_u32;
+
+fn put_byte(image: &mut [u8], at: u32, byte: u32) {
+    put(image, at as usize, &[(byte % 256) as u8]);
+}
+
+fn is_call(word: u8) -> bool {
+    match word {
+        b's' | b'o' | b't' | b'i' | b'r' | b'p' | b'l' | b'c' | b'f' | b'h' | b'a' => true,
+        _ => false,
+    }
+}
+
+fn edit(call: Call, image: &mut [u8], kept: &mut [u8]) {
+    let word = call.word;
+    match word {
+        b'b' => put_byte(image, call.first, call.second),
+        b'w' => put_u32(image, call.first as usize, call.second),
+        b'k' => put(kept, 0, image),
+        b'u' => put(image, 0, kept),
+        _ => (),
+    }
+}
+
+// Answers how many bytes of the image's buffer the calls of the next line get.
+fn row(text: &[u8], lent: usize, image: &mut [u8], kept: &mut [u8]) -> usize {
+    let word = byte_at(text, 0);
+    if is_call(word) {
+        answer::print(text, lent, image);
+        return lent;
+    }
+    if word == b'e' {
+        answer::print_each(lent, image);
+        return lent;
+    }
+    line::text(text);
+    line::end();
+    let call = Call::of(text);
+    edit(call, image, kept);
+    if word == b'g' {
+        call.first as usize
+    } else {
+        lent
+    }
+}
+
+pub(crate) fn run(text: &[u8], image: &mut [u8], kept: &mut [u8]) {
+    let mut lent = Image::LEN;
+    let mut from: usize = 0;
+    while from < text.len() {
+        let end = find(text, from, b'\n');
+        lent = row(between(text, from, end), lent, image, kept);
+        from = end + 1;
+    }
+}
