@@ -13,9 +13,8 @@ use Rattle.forms.specs.declared.terms.CounterId.{CounterId}
 use Rattle.forms.specs.declared.terms.GlobalClock.{GlobalClock}
 use Rattle.image.specs.State.{decode}
 use Rattle.desk.specs.Answer.{figures}
-use Rattle.desk.specs.Desk.{verified}
-use Rattle.host.specs.Host.{Settled, startCall, openCall, tickCall, incrementCall, readCall, proveCall, lastCall, confirmCall, proofOf, lastOf, proveOutput, lastOutput}
-use Rattle.assurance.specs.HostProofs.{allYes, requestNonce}
+use Rattle.desk.specs.Desk.{allYes, verified}
+use Rattle.host.specs.Host.{requestNonce, Settled, startCall, openCall, tickCall, incrementCall, readCall, proveCall, lastCall, confirmCall, proofOf, lastOf, proveOutput, lastOutput}
 
 -- ---- the list
 

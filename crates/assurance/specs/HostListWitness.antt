@@ -21,14 +21,13 @@ use Rattle.image.specs.FitLaws.{start-fits, append-entry-fits, store-written-fi
 use Rattle.image.specs.ImageRoundTrip.{StateFits, decode-encode, encode-sound}
 use Rattle.image.specs.Sound.{holds, oldest, after, current, soundState}
 use Rattle.image.specs.State.{State, decode, encode}
-use Rattle.host.specs.Host.{Settled, recordOf, currentOf, hasEntry, openRefusal, incrementRefusal, readRefusal, started, opened, raised, counted, proofOf, lastOf, settled, answered, startCall, openCall, incrementCall, readCall, proveCall, lastCall, proveOutput, lastOutput, proveRefusal, lastRefusal}
+use Rattle.host.specs.Host.{requestNonce, Settled, recordOf, currentOf, hasEntry, openRefusal, incrementRefusal, readRefusal, started, opened, raised, counted, proofOf, lastOf, settled, answered, startCall, openCall, incrementCall, readCall, proveCall, lastCall, proveOutput, lastOutput, proveRefusal, lastRefusal}
 use Rattle.host.specs.OpenLaws.{opened-sound}
 use Rattle.host.specs.RaiseLaws.{started-sound, counted-sound, incremented-sound}
 use Rattle.host.specs.SettledLaws.{answered-done, settled-done}
 use Rattle.host.specs.declared.answer.Figures.{Figures}
 use Rattle.assurance.specs.HostList.{HostCall, Taken, Runs}
 use Rattle.assurance.specs.HostProof.{host-claim}
-use Rattle.assurance.specs.HostProofs.{requestNonce}
 
 -- ---- the list
 

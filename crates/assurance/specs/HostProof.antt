@@ -2,13 +2,12 @@
 -- and the desk accepts each proof that prove or last writes. Document 01, "The two lists of demand 3". Assumes nothing.
 use Prim.Native.Nat.{ℕ, _-_, _*_, _^_, _<_}
 use mathlib.Core.Path.{_≡_, ap, ap₂, _∙_}
-use mathlib.Core.Bool.{Bool, not, cond, _||_}
+use mathlib.Core.Bool.{Bool, cond}
 use mathlib.Core.List.{List, [], _∷_, _++_}
 use native.Mathlib.Omega.{arith}
-use lib.Dec.{eqb, ltb}
 use lib.ListN.{length, take, drop, length-append}
 use lib.Seq.{take-at}
-use borrow.Author.Tests.{eqb-true, eq-eqb, not-false}
+use borrow.Author.Tests.{eq-eqb}
 use Rattle.forms.specs.Certificate.{certificateBytes}
 use Rattle.forms.specs.Confirmation.{confirmationBytes}
 use Rattle.forms.specs.Entry.{logBytes}
@@ -20,18 +19,18 @@ use Rattle.forms.specs.declared.confirmation.Confirmation.{Confirmation}
 use Rattle.forms.specs.declared.terms.CounterId.{CounterId}
 use Rattle.forms.specs.declared.terms.GlobalClock.{GlobalClock}
 use Rattle.image.specs.ImageRoundTrip.{decode-fits, sound-laid-out}
-use Rattle.image.specs.PassLaws.{or-right}
-use Rattle.image.specs.Sound.{holds, base, after}
+use Rattle.image.specs.Sound.{base, after}
 use Rattle.image.specs.State.{State, decode}
 use Rattle.desk.specs.Answer.{figures}
-use Rattle.desk.specs.Desk.{verified}
+use Rattle.desk.specs.Desk.{allYes, verified}
 use Rattle.desk.specs.declared.answer.Answer.{Answer}
-use Rattle.host.specs.Host.{Settled, badNonce, heldOf, entriesOf, lastEntries, proofOf, lastOf, proveRefusal, lastRefusal, counted, settled, startCall, proveCall, lastCall, outputFor}
-use Rattle.host.specs.SettledLaws.{settled-done}
+use Rattle.host.specs.Host.{requestNonce, heldOf, entriesOf, lastEntries, proofOf, lastOf, proveRefusal, lastRefusal, counted, startCall, proveCall, lastCall, outputFor}
+use Rattle.host.specs.DoneLaws.{settled-passed, value-given}
+use Rattle.host.specs.RefusalLaws.{prove-passed}
 use Rattle.host.specs.declared.answer.Figures.{Figures}
-use Rattle.assurance.specs.HostCalls.{settled-passed, prove-passed, prove-call-accepted, last-call-accepted}
+use Rattle.assurance.specs.HostCalls.{prove-call-accepted, last-call-accepted}
 use Rattle.assurance.specs.HostList.{HostCall, settledBy, Widths, Taken, Fair, Runs, HostClaim}
-use Rattle.assurance.specs.HostProofs.{allYes, requestNonce, fit-drop, fit-take}
+use Rattle.assurance.specs.HostProofs.{fit-drop, fit-take}
 use Rattle.assurance.specs.HostSteps.{Kept, start-steps, call-steps}
 
 -- ---- the bytes of a proof
@@ -72,13 +71,6 @@ output-taken r fields output id nonce value closing done at long accepted =
       accepted = ap (λ (l : List ℕ). figures (verified l (allYes fields) id nonce)) same ∙ ap figures accepted;
     }
 
--- its value is the length of the proof
-value-given : (s : List ℕ) (number value : ℕ) (next : State) → settled s number value next .figures .number ≡ 0
-    → settled s number value next .figures .value ≡ value
-value-given s number value next e =
-    let passed = settled-passed s number value next e in
-    ap (λ (r : Settled). r .figures .value) (settled-done s number value next (passed .0) (passed .1))
-
 -- ---- each call
 
 module _ (s : List ℕ) (kept : Kept s) where
@@ -89,12 +81,9 @@ module _ (s : List ℕ) (kept : Kept s) where
       let fields : Fields = proofOf st nonce id in
       let len : ℕ = proofLen (shapeOf fields) in
       let number : ℕ = proveRefusal st nonce id len (length output) in
-      let rows = prove-passed (eqb (id .0) 0 || badNonce nonce) (not (holds (st .records) id)) (ltb (length output) len)
-      (settled-passed s number len (counted st) e .1) in
-      let nonce-long : length nonce ≡ nonceLen =
-      eqb-true (length nonce) nonceLen (not-false (eqb (length nonce) nonceLen) (or-right (eqb (id .0) 0) (badNonce nonce) (rows .0))) in
+      let rows = prove-passed st nonce id len (length output) (settled-passed s number len (counted st) e .1) in
       let long : length (encode fields) ≡ len =
-      read-length (heldOf st id) (record { reading = st .clock; nonce = nonce }) (length (entriesOf st id)) (logBytes (entriesOf st id)) nonce-long
+      read-length (heldOf st id) (record { reading = st .clock; nonce = nonce }) (length (entriesOf st id)) (logBytes (entriesOf st id)) (rows .long)
       (length-log (entriesOf st id) (entries-fit s kept id)) in
       let there = prove-call-accepted s (kept .bytes) id id-fits nonce (length output) e in (
         there .0,

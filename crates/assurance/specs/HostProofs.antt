@@ -10,40 +10,25 @@ use lib.ListN.{length, take, drop, length-take, length-drop, take-append-drop}
 use borrow.Author.Tests.{eqb-true, eq-eqb, ne-eqb, leb-true}
 use Rattle.forms.specs.Chain.{valueAfter, chains}
 use Rattle.forms.specs.ChainLaws.{chains-append, value-snoc, step-own}
-use Rattle.forms.specs.Limits.{nonceLen, maxEntries}
+use Rattle.forms.specs.Limits.{nonceLen}
 use Rattle.forms.specs.PartsLaws.{EntryFits, EntriesFit, none, one-more}
-use Rattle.forms.specs.Proof.{Fields, shapeOf, encode}
+use Rattle.forms.specs.Proof.{encode}
 use Rattle.forms.specs.ProofLaws.{both}
 use Rattle.forms.specs.Terms.{globalClock, sameId}
 use Rattle.forms.specs.declared.confirmation.Confirmation.{Confirmation}
 use Rattle.forms.specs.declared.entry.Entry.{Entry}
 use Rattle.forms.specs.declared.terms.CounterId.{CounterId}
 use Rattle.forms.specs.declared.terms.GlobalClock.{GlobalClock}
+use Rattle.image.specs.ImageRoundTrip.{StateFits}
 use Rattle.image.specs.State.{Record, State}
 use Rattle.image.specs.Sound.{holds, distinct, bounded, oldest, consecutive, base, spanned, named, after, chained, current, soundState}
 use Rattle.image.specs.LookupLaws.{zero-unheld}
 use Rattle.desk.specs.declared.answer.Answer.{Answer}
-use Rattle.desk.specs.Desk.{verdictCount, verified}
+use Rattle.desk.specs.Desk.{allYes, verified}
 use Rattle.host.specs.LastLaws.{consecutive-drop}
-use Rattle.host.specs.Host.{recordOf, heldOf, entriesOf, currentOf, hasEntry, proofOf, lastEntries, lastOf}
+use Rattle.host.specs.Host.{recordOf, heldOf, entriesOf, currentOf, hasEntry, requestNonce, proofOf, lastEntries, lastOf}
 use Rattle.assurance.specs.AcceptLaws.{SetOut, read-accepted, increment-accepted}
-use Rattle.assurance.specs.AcceptRows.{ones}
 use Rattle.assurance.specs.Rows.{same-id}
-
--- what the fields of an image hold: a clock and entries of 32 bits, and no more entries than it has room for
-pub record StateFits (st : State) : Type 0 where
-  pub clock : st .clock .0 < 2 ^ 32
-  pub log : EntriesFit (st .log)
-  pub few : length (st .log) ≤ maxEntries
-
--- a verdict list for the proof written from some fields, all yes
-abbrev pub allYes : Fields → List ℕ
-allYes fields = ones (verdictCount (shapeOf fields))
-
--- the nonce of the counter's request in the entry with reading t
-unfoldable pub requestNonce : CounterId → GlobalClock → List Entry → List ℕ
-requestNonce id t [] = []
-requestNonce id t (e ∷ es) = cond (sameId (e .id) id && eqb (e .reading .0) (t .0)) (e .nonce) (requestNonce id t es)
 
 -- ---- some of the entries
 
@@ -244,7 +229,7 @@ module _ (st : State) (id : CounterId) (sound : soundState st ≡ true) (fits : 
         own = r .own;
         low = r .low;
         fits = record { id = omega arith; value = omega (arith, r .low, r .high, fits .clock); reading = omega (arith, r .high, fits .clock) };
-        few = simp length-drop (omega (arith, fits .few));
+        few = simp length-drop (omega (arith, fits .entries));
         entries-fit = fit-drop (st .log) (heldOf st id .reading .0 - base st) (fits .log);
         steps =
             ap (λ (g : ℕ). consecutive g (entriesOf st id)) (sym from)

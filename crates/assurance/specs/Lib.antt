@@ -15,6 +15,5 @@ pub mod HostListWitness
 pub mod HostProof
 pub mod HostProofs
 pub mod HostSteps
-pub mod HostWitness
 pub mod ListLaws
 pub mod Rows

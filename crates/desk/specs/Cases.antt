@@ -13,13 +13,13 @@ use Rattle.forms.specs.Confirmation.{confirmationAt, confirmationBytes}
 use Rattle.forms.specs.Certificate.{certificateAt, certificateBytes}
 use Rattle.forms.specs.Entry.{entryAt, entryBytes, entriesAt, logBytes}
 use Rattle.forms.specs.Chain.{step, follows, valueAfter}
-use Rattle.forms.specs.Proof.{Fields, read, increment, shapeOf, headerOf, headerBytes, encode}
+use Rattle.forms.specs.Proof.{Fields, read, increment, headerOf, headerBytes, encode}
 use Rattle.forms.specs.declared.terms.CounterId.{CounterId}
 use Rattle.forms.specs.declared.confirmation.Confirmation.{Confirmation}
 use Rattle.forms.specs.declared.entry.Entry.{Entry}
 use Rattle.desk.specs.Answer.{Figures, figures}
 use Rattle.desk.specs.Lowest.{lowestFrom}
-use Rattle.desk.specs.Desk.{verdictCount, zeroOrOne, badWanted, badVerdicts, badConfirmation, certificateDenied, moduleDenied}
+use Rattle.desk.specs.Desk.{allYes, zeroOrOne, badWanted, badVerdicts, badConfirmation, certificateDenied, moduleDenied}
 use Rattle.desk.specs.Desk.{closesElsewhere, wrongReading, wrongClosing, ownerDenied, breaksChain, closing, verified}
 
 -- ---- a row
@@ -83,9 +83,6 @@ P = onRead (confirmed 7 100 100) 103 (first ∷ second ∷ third ∷ [])
 -- the confirmation of K and L, at the clock's end
 abbrev atEnd : Confirmation
 atEnd = confirmed 7 4294967295 4294967295
-
-abbrev allYes : Fields → List ℕ
-allYes p = replicate (verdictCount (shapeOf p)) 1
 
 -- wanted counter 7; then verdicts and nonce, and number, value and place
 abbrev row : Fields → List ℕ → List ℕ → ℕ → ℕ → ℕ → Case

@@ -1,10 +1,10 @@
 -- The desk's answer to a validity proof: document 01, "The desk". One row of `checks` for each row of its table, in its order; where a
 -- number is given for two things, one row for each. Assumes nothing.
 use Prim.Native.Nat.{ℕ, _+_, _-_, _*_}
-use mathlib.Core.Bool.{Bool, true, false, not, cond, _&&_, _||_}
+use mathlib.Core.Bool.{Bool, true, false, not, _&&_, _||_}
 use mathlib.Core.List.{List, [], _∷_}
 use lib.Dec.{eqb, leb, ltb}
-use lib.ListN.{length, getD}
+use lib.ListN.{length, getD, replicate}
 use Rattle.forms.specs.Bytes.{same, window}
 use Rattle.forms.specs.Limits.{nonceLen, entryLen, proofHeaderLen}
 use Rattle.forms.specs.Terms.{sameId}
@@ -20,7 +20,7 @@ use Rattle.forms.specs.Confirmation.{confirmationAt}
 use Rattle.forms.specs.Certificate.{certificateAt}
 use Rattle.forms.specs.Entry.{entryAt, entriesAt}
 use Rattle.forms.specs.Chain.{follows, valueAfter}
-use Rattle.forms.specs.Proof.{knownForm, shapeAt, miscounted, laidOut, confirmationOffset, certificateOffset, logOffset}
+use Rattle.forms.specs.Proof.{Fields, shapeOf, knownForm, shapeAt, miscounted, laidOut, confirmationOffset, certificateOffset, logOffset}
 use Rattle.desk.specs.Answer.{Answer}
 use Rattle.desk.specs.Lowest.{lowest}
 
@@ -53,6 +53,10 @@ verdictsBefore Kind.Increment = 1
 -- the length of the verdict list
 abbrev pub verdictCount : Proof → ℕ
 verdictCount p = verdictsBefore (p .kind) + 2 * p .count
+
+-- a verdict list for the proof written from some fields, all yes
+abbrev pub allYes : Fields → List ℕ
+allYes fields = replicate {A = ℕ} (verdictCount (shapeOf fields)) 1
 
 -- every verdict is 0 or 1
 unfoldable pub zeroOrOne : List ℕ → Bool

@@ -1,7 +1,7 @@
 -- The host's calls: document 01, "The host". Each is a row of refusals in the order of its numbers, a value and the state after it; on
 -- refusal the image stays as it was. Assumes nothing.
-use Prim.Native.Nat.{ℕ, _+_, _-_, _*_, min}
-use mathlib.Core.Bool.{Bool, true, false, not, cond, _&&_, _||_}
+use Prim.Native.Nat.{ℕ, _+_, _-_, min}
+use mathlib.Core.Bool.{Bool, false, not, cond, _&&_, _||_}
 use mathlib.Core.List.{List, [], _∷_, _++_}
 use lib.Dec.{eqb, ltb}
 use lib.ListN.{length, take, drop}
@@ -51,6 +51,11 @@ valueAt st id reading =
 unfoldable pub hasEntry : CounterId → GlobalClock → List Entry → Bool
 hasEntry id t [] = false
 hasEntry id t (e ∷ es) = (sameId (e .id) id && eqb (e .reading .0) (t .0)) || hasEntry id t es
+
+-- the nonce of the counter's request in the entry with the reading t
+unfoldable pub requestNonce : CounterId → GlobalClock → List Entry → List ℕ
+requestNonce id t [] = []
+requestNonce id t (e ∷ es) = cond (sameId (e .id) id && eqb (e .reading .0) (t .0)) (e .nonce) (requestNonce id t es)
 
 -- ---- refusals, in number order; 0 where there is none
 
