@@ -1,0 +1,13 @@
+-- `console::grammar::two_of` meets its contract, by the two figures. Assumes nothing.
+use mathlib.Core.Path.{sym, ap₂}
+use borrow.Author.Needs.{needs}
+use Rattle.console.specs.Grammar.{twoOf}
+use Rattle.console.proofs.grammar.two_of.Statement.{statement}
+use Rattle.console.proofs.grammar.two_of.Tie as tie
+
+given : tie.Need-returns
+given c = sym (ap₂ twoOf (c .before .before .before .before .a .given .1) (c .before .b .given .1))
+
+pub two-of-spec : {M : Type 1} → statement M
+two-of-spec =
+    tie.close (tie.spec (λ c. search needs) (λ c. search needs) (λ c. search needs) (λ c. search needs) given (λ c. search needs) (λ c. search needs))

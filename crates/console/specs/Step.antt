@@ -1,0 +1,72 @@
+-- One command over an image: document 01, "The program". What it answers and the image after it, by the host's and the desk's own
+-- definitions. "All verdicts, the host's and the desk's, are 1". Assumes nothing.
+use Prim.Native.Nat.{ℕ}
+use mathlib.Core.Bool.{cond}
+use mathlib.Core.List.{List, [], _∷_, _++_}
+use lib.Dec.{eqb}
+use lib.ListN.{length, take, replicate}
+use Rattle.forms.specs.Limits.{nonceLen, maxProofLen}
+use Rattle.forms.specs.Proof.{Fields}
+use Rattle.forms.specs.declared.terms.CounterId.{CounterId}
+use Rattle.image.specs.State.{decode}
+use Rattle.desk.specs.Answer.{figures}
+use Rattle.desk.specs.Desk.{allYes, verified}
+use Rattle.desk.specs.declared.answer.Answer.{Answer}
+use Rattle.host.specs.Host.{Settled, startCall, openCall, tickCall, incrementCall, readCall, proveCall, lastCall, confirmCall}
+use Rattle.host.specs.declared.answer.Figures.{Figures}
+use Rattle.host.specs.Host.{proofOf, lastOf, proveOutput, lastOutput, requestNonce}
+use Rattle.console.specs.Grammar.{Command}
+use Rattle.console.specs.Numeral.{numeral}
+
+-- "A byte b stands for a nonce of 20 bytes b"
+abbrev pub nonceOf : ℕ → List ℕ
+nonceOf b = replicate {A = ℕ} nonceLen b
+
+-- a verdict of the owner's: yes
+abbrev pub yes : ℕ
+yes = 1
+
+-- "Proofs go to outputs of their own": room for the longest
+unfoldable pub emptyOutput : List ℕ
+emptyOutput = replicate {A = ℕ} maxProofLen 0
+
+-- the desk's number and value
+abbrev pub deskFigures : Answer → Figures
+deskFigures answer = record { number = figures answer .number; value = figures answer .value }
+
+-- "`prove` and `last` print, when written, the desk's number and value": the desk gets the proof at its length. One that the host refuses has
+-- the host's
+unfoldable pub shown : Figures → Fields → List ℕ → CounterId → List ℕ → Figures
+shown written fields output id nonce =
+    cond (eqb (written .number) 0) (deskFigures (verified (take (written .value) output) (allYes fields) id nonce)) written
+
+unfoldable pub ran : List ℕ → Command → Settled
+ran s (Command.Start clock) = startCall s clock
+ran s (Command.Open c) = openCall s c yes
+ran s (Command.Tick b) = tickCall s (nonceOf b)
+ran s (Command.Increment b id before) = incrementCall s (nonceOf b) id before yes
+ran s (Command.Read id) = record { figures = readCall s id; image = s }
+ran s (Command.Prove b id) =
+    let call : Settled = proveCall s (nonceOf b) id (length emptyOutput) in
+    record {
+      figures = shown (call .figures) (proofOf (decode s) (nonceOf b) id) (proveOutput s (nonceOf b) id emptyOutput) id (nonceOf b);
+      image = call .image;
+    }
+-- "For `last` the wanted nonce is that of the box's request in entry t"
+ran s (Command.Last id t) =
+    let call : Settled = lastCall s id t (length emptyOutput) in
+    record {
+      figures = shown (call .figures) (lastOf (decode s) id t) (lastOutput s id t emptyOutput) id (requestNonce id t (decode s .log));
+      image = call .image;
+    }
+ran s (Command.Confirm c) = confirmCall s c yes
+-- 27: "a line that is none of those"
+ran s Command.Other = record { figures = record { number = 27; value = 0 }; image = s }
+
+-- "Each line prints number and value"
+unfoldable pub answerText : Figures → List ℕ
+answerText f = numeral (f .number) ++ (32 ∷ numeral (f .value) ++ (10 ∷ []))
+
+-- the most bytes of an answer: two numbers of ten digits, a space and a newline
+abbrev pub maxAnswer : ℕ
+maxAnswer = 22

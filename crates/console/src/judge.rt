@@ -1,0 +1,113 @@
+// prove and last as lines ask for them: the host writes the proof, and the desk judges it with every verdict yes.
+use crate::part::front;
+use desk::verify::verify;
+use forms::entry::Entry;
+use forms::image::Image;
+use forms::nonce;
+use forms::nonce::Nonce;
+use forms::proof::Kind;
+use forms::proof::Proof;
+use forms::terms::CounterId;
+use forms::terms::GlobalClock;
+use host::answer::Figures;
+use host::last::last;
+use host::prove::prove;
+use image::header::entry_count;
+ghost use mathlib.Core.Path.{_≡_};
+ghost use Prim.Native.Nat.{ℕ, _≤_};
+ghost use lib.ListN.{replicate, take};
+ghost use Rattle.forms.specs.Entry.{entriesAt};
+ghost use Rattle.forms.specs.Limits.{imageLogOffset, maxEntries, maxProofLen};
+ghost use Rattle.forms.specs.Proof.{logOffset};
+ghost use Rattle.desk.specs.Desk.{verified};
+ghost use Rattle.console.specs.Grammar.{Command};
+ghost use Rattle.console.specs.Step.{deskFigures, ran};
+ghost use Rattle.console.specs.StepLaws.{FoundIn, FoundNonce, verdictsFor};
+
+// The most verdicts on a proof: on the confirmation, on the certificate, and two on each entry.
+const MAX_VERDICTS: usize = 2 + 2 * (Proof::MAX_ENTRIES as usize);
+
+// How many verdicts there are on a proof of a kind and a length.
+fn verdict_count(kind: Kind, len: u32) -> usize
+    requires { ⌜ (logOffset kind ≤ len) × (len ≤ maxProofLen) ⌝ }
+    ensures { λ r. ⌜ r ≡ verdictsFor kind len ⌝ }
+{
+    let log = Proof::new(kind, 0).log_offset();
+    let entries = (len as usize - log) / Entry::LEN;
+    match kind {
+        Kind::Read => 2 + 2 * entries,
+        Kind::Increment => 1 + 2 * entries,
+    }
+}
+
+// The desk's number and value for the proof of a kind at the start of an output.
+fn judge(kind: Kind, len: u32, out: &[u8], id: CounterId, nonce: &[u8]) -> Figures
+    requires { ⌜ (logOffset kind ≤ len) × (len ≤ maxProofLen) ⌝ }
+    ensures { λ r. ⌜ r ≡ deskFigures (verified (take len (now (out .entry))) (replicate {A = ℕ} (verdictsFor kind len) 1) id (now (nonce .entry))) ⌝ }
+{
+    let yes = [1u8; MAX_VERDICTS];
+    let verdicts = front(&yes, verdict_count(kind, len));
+    let figures = verify(front(out, len as usize), verdicts, id, nonce).figures();
+    Figures {
+        number: figures.number,
+        value: figures.value,
+    }
+}
+
+// prove, and the desk's answer where a proof was written.
+pub(crate) fn show_prove(image: &mut [u8], byte: u8, id: CounterId) -> Figures
+    ensures { λ r. ⌜ r ≡ ran (now (image .entry)) (Command.Prove byte id) .figures ⌝ }
+    ensures { λ _. ⌜ now (image .exit) ≡ ran (now (image .entry)) (Command.Prove byte id) .image ⌝ }
+{
+    let nonce = [byte; nonce::LEN];
+    let mut out = [0u8; Proof::MAX_LEN];
+    let written = prove(image, &nonce, id, &mut out);
+    if written.number != 0 {
+        return written;
+    }
+    judge(Kind::Read, written.value, &out, id, &nonce)
+}
+
+// The nonce of a counter's request in the entry with a reading, where one of the first entries of the log is that.
+fn nonce_among(image: &[u8], id: CounterId, t: GlobalClock, count: u32) -> Nonce
+    requires { ⌜ count ≤ maxEntries ⌝ }
+    ensures { λ r. ⌜ FoundNonce id t (entriesAt (now (image .entry)) imageLogOffset count) r ⌝ }
+{
+    let mut offset = Image::LOG;
+    let mut left = count;
+    while 0 < left {
+        left -= 1;
+        if Entry::id_at(image, offset).0 == id.0 {
+            if Entry::reading_at(image, offset).0 == t.0 {
+                return Entry::nonce_at(image, offset);
+            }
+        }
+        offset += Entry::LEN;
+    }
+    [0u8; nonce::LEN]
+}
+
+// The nonce of a counter's request in the entry with a reading, where the log has no more entries than an image can have.
+fn request_nonce(image: &[u8], id: CounterId, t: GlobalClock) -> Nonce
+    ensures { λ r. ⌜ FoundIn id t (now (image .entry)) r ⌝ }
+{
+    let count = entry_count(image);
+    if Image::MAX_ENTRIES < count {
+        return [0u8; nonce::LEN];
+    }
+    nonce_among(image, id, t, count)
+}
+
+// last, and the desk's answer where a proof was written.
+pub(crate) fn show_last(image: &mut [u8], id: CounterId, t: GlobalClock) -> Figures
+    ensures { λ r. ⌜ r ≡ ran (now (image .entry)) (Command.Last id t) .figures ⌝ }
+    ensures { λ _. ⌜ now (image .exit) ≡ ran (now (image .entry)) (Command.Last id t) .image ⌝ }
+{
+    let nonce = request_nonce(image, id, t);
+    let mut out = [0u8; Proof::MAX_LEN];
+    let written = last(image, id, t, &mut out);
+    if written.number != 0 {
+        return written;
+    }
+    judge(Kind::Increment, written.value, &out, id, &nonce)
+}

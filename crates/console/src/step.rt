@@ -1,0 +1,67 @@
+// One command over an image, and the text of its answer.
+use crate::grammar::Command;
+use crate::judge::show_last;
+use crate::judge::show_prove;
+use crate::numeral::put_numeral;
+use forms::bytes::put;
+use forms::nonce;
+use host::answer::Figures;
+use host::confirm::confirm;
+use host::open::open;
+use host::raise::increment;
+use host::raise::tick;
+use host::read::read;
+use host::start::start;
+ghost use mathlib.Core.Path.{_≡_};
+ghost use Prim.Native.Nat.{_+_, _≤_};
+ghost use lib.ListN.{length};
+ghost use Rattle.forms.specs.Bytes.{overwrite};
+ghost use Rattle.console.specs.Step.{answerText, maxAnswer, ran};
+
+// The owner's verdict on every confirmation and request.
+const YES: u32 = 1;
+
+// A line that is none of the commands.
+const NO_COMMAND: u32 = 27;
+
+// What a command answers. The image is as the host leaves it; after a refusal, and for a line that is no command, it is as it was.
+//
+// Ruled out, among others: a console that prints the length of a proof that the desk turns away; one that clears the image at a bad line.
+pub fn step(image: &mut [u8], command: Command) -> Figures
+    ensures { λ r. ⌜ r ≡ ran (now (image .entry)) command .figures ⌝ }
+    ensures { λ _. ⌜ now (image .exit) ≡ ran (now (image .entry)) command .image ⌝ }
+{
+    match command {
+        Command::Start(clock) => start(image, clock),
+        Command::Open(confirmation) => open(image, confirmation, YES),
+        Command::Tick(byte) => tick(image, &[byte; nonce::LEN]),
+        Command::Increment(byte, id, before) => increment(
+            image,
+            &[byte; nonce::LEN],
+            id,
+            before,
+            YES,
+        ),
+        Command::Read(id) => read(image, id),
+        Command::Prove(byte, id) => show_prove(image, byte, id),
+        Command::Last(id, t) => show_last(image, id, t),
+        Command::Confirm(confirmation) => confirm(image, confirmation, YES),
+        Command::Other => Figures {
+            number: NO_COMMAND,
+            value: 0,
+        },
+    }
+}
+
+// Stores the text of an answer from a place on, which has room for it, and answers the place behind it.
+pub(crate) fn put_answer(text: &mut [u8], at: usize, figures: Figures) -> usize
+    requires { ⌜ at + maxAnswer ≤ length (now text) ⌝ }
+    ensures { λ r. ⌜ r ≡ at + length (answerText figures) ⌝ }
+    ensures { λ _. ⌜ now (text .exit) ≡ overwrite (now (text .entry)) at (answerText figures) ⌝ }
+{
+    let number_end = put_numeral(text, at, figures.number);
+    put(text, number_end, b" ");
+    let value_end = put_numeral(text, number_end + 1, figures.value);
+    put(text, value_end, b"\n");
+    value_end + 1
+}

@@ -1,0 +1,131 @@
+// A day at the depot: the morning's round past all counters, then calls as they are drawn.
+use crate::module;
+use crate::owner::hand_in;
+use crate::owner::handed_over;
+use crate::owner::opened;
+use crate::owner::raise_shown;
+use crate::owner::visited;
+use crate::plan::COUNTERS;
+use crate::plan::STEPS;
+use crate::plan::drawn;
+use crate::plan::tablet_away;
+use crate::raise::dock_raises;
+use crate::raise::tablet_raises;
+use crate::raise::ticked;
+use crate::tally;
+use forms::terms::GlobalClock;
+
+// What is drawn for a step: a counter's place, what is done, and a number for what else there is to decide.
+pub struct Step {
+    pub place: u32,
+    pub what: u32,
+    pub rest: u32,
+}
+
+impl Step {
+    fn of(x: u64) -> Self {
+        Step {
+            place: (x % 64) as u32,
+            what: (x / 64 % 16) as u32,
+            rest: (x / 1024 % 4294967296) as u32,
+        }
+    }
+}
+
+fn round(day: u32, image: &mut [u8], events: &mut [u8], cards: &mut [u8], tally: &mut [u8]) {
+    let mut place: u32 = 0;
+    while place < COUNTERS {
+        visited(place, day, image, events, cards, tally);
+        place += 1;
+    }
+}
+
+// On the first days the next counter is opened, at a reading of just now; with 64 opened it is a sixty-fifth. Later a counter that is
+// opened already.
+fn opening(
+    step: Step,
+    day: u32,
+    image: &mut [u8],
+    events: &[u8],
+    cards: &mut [u8],
+    tally: &mut [u8],
+) {
+    let now = module::clock(events).0;
+    let reading = GlobalClock(std::num::wrapping_sub_u32(now, step.rest % 3));
+    if day <= 5 {
+        let next = tally::count(tally, tally::OPENINGS);
+        opened(next, reading, day, image, cards, tally);
+        return;
+    }
+    if step.rest % 16 == 0 {
+        opened(step.place, reading, day, image, cards, tally);
+    }
+}
+
+// A raise by a dock, or by the counter's tablet where that is not away.
+fn raised(
+    step: Step,
+    day: u32,
+    image: &mut [u8],
+    events: &mut [u8],
+    cards: &mut [u8],
+    tally: &mut [u8],
+) {
+    let place = step.place;
+    if step.what < 5 || tablet_away(place, day) {
+        dock_raises(place, 1, image, events, cards, tally);
+    } else {
+        tablet_raises(place, day, image, events, cards, tally);
+    }
+}
+
+// One request in four of these is not signed.
+fn doubtful_raise(step: Step, image: &mut [u8], events: &mut [u8], cards: &[u8], tally: &mut [u8]) {
+    let verdict = if step.rest % 4 == 0 { 0 } else { 1 };
+    dock_raises(step.place, verdict, image, events, cards, tally);
+}
+
+// What each sixteenth of the numbers drawn stands for.
+fn carry_out(
+    step: Step,
+    day: u32,
+    image: &mut [u8],
+    events: &mut [u8],
+    cards: &mut [u8],
+    tally: &mut [u8],
+) {
+    let place = step.place;
+    let what = step.what;
+    match what {
+        0 => ticked(image, events, tally),
+        1..=8 => raised(step, day, image, events, cards, tally),
+        9 => doubtful_raise(step, image, events, cards, tally),
+        10 | 11 => {
+            let at_once = step.rest % 2 == 0;
+            handed_over(place, at_once, day, image, events, cards, tally)
+        }
+        12 | 13 => raise_shown(place, what == 13, day, image, events, cards, tally),
+        14 => hand_in(place, day, image, cards, tally),
+        _ => opening(step, day, image, events, cards, tally),
+    }
+}
+
+// Answers the number drawn last.
+pub(crate) fn run(
+    day: u32,
+    before: u64,
+    image: &mut [u8],
+    events: &mut [u8],
+    cards: &mut [u8],
+    tally: &mut [u8],
+) -> u64 {
+    round(day, image, events, cards, tally);
+    let mut x = before;
+    let mut left = STEPS;
+    while 0 < left {
+        x = drawn(x);
+        carry_out(Step::of(x), day, image, events, cards, tally);
+        left -= 1;
+    }
+    x
+}

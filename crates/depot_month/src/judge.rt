@@ -1,0 +1,87 @@
+// The desk's answer to a proof that the host wrote, and what it shows beside the history and the host's own answers.
+use crate::cards;
+use crate::cards::Slip;
+use crate::module;
+use crate::part::front;
+use crate::plan::id_of;
+use crate::tally;
+use desk::verify::verify;
+use forms::entry::Entry;
+use forms::nonce::Nonce;
+use forms::proof::Kind;
+use forms::proof::Proof;
+use forms::terms::GlobalClock;
+
+// Verdict bytes of the longest proof.
+const VERDICTS: usize = 2 + 2 * (Proof::MAX_ENTRIES as usize);
+
+// How many verdicts a proof of a length has: one for the confirmation and in kind 1 one for the certificate, and two for each entry.
+fn verdict_count(kind: Kind, len: usize) -> usize {
+    let log = Proof::new(kind, 0).len();
+    if len < log {
+        return 0;
+    }
+    let entries = (len - log) / Entry::LEN;
+    match kind {
+        Kind::Read => 2 + 2 * entries,
+        Kind::Increment => 1 + 2 * entries,
+    }
+}
+
+// What a proof is judged for: its counter and nonce, the reading that it has to close on and the value that the host stands for.
+pub struct Wanted {
+    pub place: u32,
+    pub nonce: Nonce,
+    pub closing: GlobalClock,
+    pub value: u32,
+}
+
+// What the desk shows of an accepted proof is compared with the history and with the host.
+fn compared(
+    wanted: Wanted,
+    value: u32,
+    closing: GlobalClock,
+    events: &[u8],
+    cards: &[u8],
+    tally: &mut [u8],
+) {
+    let place = wanted.place;
+    let opened = cards::opened(cards, place);
+    let history_value = module::value_at(events, id_of(place), opened, closing);
+    tally::mix(tally, history_value);
+    tally::add(tally, tally::ACCEPTED);
+    tally::add_if(tally, tally::CLOSING_DIFFERS, closing.0 != wanted.closing.0);
+    tally::add_if(tally, tally::VALUE_DIFFERS, value != history_value);
+    tally::add_if(tally, tally::HOST_DIFFERS, value != wanted.value);
+}
+
+// The desk's answer to a proof, given yes for every signature, as a slip of the day; no slip where the desk refuses.
+pub(crate) fn judged(
+    proof: &[u8],
+    kind: Kind,
+    wanted: Wanted,
+    day: u32,
+    events: &[u8],
+    cards: &[u8],
+    tally: &mut [u8],
+) -> Slip {
+    let yes = [1u8; VERDICTS];
+    let nonce = wanted.nonce;
+    let verdicts = front(&yes, verdict_count(kind, proof.len()));
+    let shown = verify(proof, verdicts, id_of(wanted.place), &nonce).figures();
+    tally::mix(tally, shown.number);
+    tally::mix(tally, shown.value);
+    tally::mix(tally, shown.closing);
+    tally::mix(tally, shown.place);
+    if shown.number != 0 {
+        tally::add(tally, tally::DESK_REFUSES);
+        return Slip::none();
+    }
+    let closing = GlobalClock(shown.closing);
+    compared(wanted, shown.value, closing, events, cards, tally);
+    Slip {
+        value: shown.value,
+        reading: closing,
+        day,
+    }
+}

@@ -1,0 +1,153 @@
+// Proofs that the host is asked for, up to the clock and up to a raise, each of which goes to the desk.
+use crate::cards::Slip;
+use crate::judge::Wanted;
+use crate::judge::judged;
+use crate::module;
+use crate::part::front;
+use crate::plan::FIRST_READING;
+use crate::plan::id_of;
+use crate::raise::current;
+use crate::tally;
+use forms::event::ModuleEvent;
+use forms::nonce::Nonce;
+use forms::proof::Kind;
+use forms::proof::Proof;
+use forms::terms::GlobalClock;
+use host::answer::Figures;
+use host::last::last;
+use host::prove::prove;
+
+// The host's answer to prove.
+fn prove_asked(
+    place: u32,
+    nonce: Nonce,
+    image: &mut [u8],
+    out: &mut [u8],
+    tally: &mut [u8],
+) -> Figures {
+    let figures = prove(image, &nonce, id_of(place), out);
+    tally::answered(tally, image, figures);
+    tally::add_if(tally, tally::PROVED, figures.number == 0);
+    figures
+}
+
+// The host's answer to last.
+fn last_asked(
+    place: u32,
+    t: GlobalClock,
+    earlier: bool,
+    image: &mut [u8],
+    out: &mut [u8],
+    tally: &mut [u8],
+) -> Figures {
+    let figures = last(image, id_of(place), t, out);
+    let written = figures.number == 0;
+    tally::answered(tally, image, figures);
+    tally::add_if(tally, tally::PROVED_LAST, written);
+    tally::add_if(tally, tally::PROVED_EARLIER, written && earlier);
+    figures
+}
+
+// A proof up to the clock is judged once the module has read its clock with the nonce.
+fn read_judged(
+    proof: &[u8],
+    place: u32,
+    nonce: Nonce,
+    value: u32,
+    day: u32,
+    events: &mut [u8],
+    cards: &[u8],
+    tally: &mut [u8],
+) -> Slip {
+    module::perform(events, ModuleEvent::clock_read(nonce));
+    let wanted = Wanted {
+        place,
+        nonce,
+        closing: module::clock(events),
+        value,
+    };
+    judged(proof, Kind::Read, wanted, day, events, cards, tally)
+}
+
+// A proof up to the clock, asked for with a new nonce; the host stands for a value.
+fn proved_now(
+    place: u32,
+    value: u32,
+    day: u32,
+    image: &mut [u8],
+    events: &mut [u8],
+    cards: &[u8],
+    tally: &mut [u8],
+) -> Slip {
+    let nonce = tally::nonce(tally);
+    let mut out = [0u8; Proof::MAX_LEN];
+    let figures = prove_asked(place, nonce, image, &mut out, tally);
+    if figures.number != 0 {
+        return Slip::none();
+    }
+    let proof = front(&out, figures.value as usize);
+    read_judged(proof, place, nonce, value, day, events, cards, tally)
+}
+
+// A proof up to the clock. The value that the host stands for is the one that read gives on the same image.
+pub(crate) fn proved(
+    place: u32,
+    day: u32,
+    image: &mut [u8],
+    events: &mut [u8],
+    cards: &[u8],
+    tally: &mut [u8],
+) -> Slip {
+    let value = current(place, image, events, cards, tally);
+    proved_now(place, value, day, image, events, cards, tally)
+}
+
+// The reading of the counter's last raise, or of the raise before it; of a counter that was not raised, that of its opening.
+fn raise_of(value: u32, earlier: bool, events: &[u8]) -> GlobalClock {
+    let newest = GlobalClock(value);
+    if earlier && FIRST_READING < value {
+        return GlobalClock(module::before_at(events, newest));
+    }
+    newest
+}
+
+// A proof that closes on the counter's raise at t, with the nonce of that raise's request; the host stands for t.
+fn proved_at(
+    place: u32,
+    t: GlobalClock,
+    earlier: bool,
+    day: u32,
+    image: &mut [u8],
+    events: &[u8],
+    cards: &[u8],
+    tally: &mut [u8],
+) -> Slip {
+    let mut out = [0u8; Proof::MAX_LEN];
+    let figures = last_asked(place, t, earlier, image, &mut out, tally);
+    if figures.number != 0 {
+        return Slip::none();
+    }
+    let wanted = Wanted {
+        place,
+        nonce: module::nonce_at(events, t),
+        closing: t,
+        value: t.0,
+    };
+    let proof = front(&out, figures.value as usize);
+    judged(proof, Kind::Increment, wanted, day, events, cards, tally)
+}
+
+// A proof that closes on the counter's last raise, or on the one before it.
+pub(crate) fn proved_last(
+    place: u32,
+    earlier: bool,
+    day: u32,
+    image: &mut [u8],
+    events: &[u8],
+    cards: &[u8],
+    tally: &mut [u8],
+) -> Slip {
+    let value = current(place, image, events, cards, tally);
+    let t = raise_of(value, earlier, events);
+    proved_at(place, t, earlier, day, image, events, cards, tally)
+}

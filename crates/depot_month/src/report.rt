@@ -1,0 +1,121 @@
+// What is printed: a line for each day, and the counts of the whole month.
+use crate::line;
+use crate::module;
+use crate::tally;
+use forms::bytes::wide;
+use image::header::counter_count;
+use image::header::entry_count;
+use image::header::proofs_written;
+
+fn labelled(label: &[u8], number: u32) {
+    line::text(label);
+    line::figure(number);
+}
+
+// The clock is the history's: the host's is compared with it at every raise.
+pub(crate) fn day(day: u32, image: &[u8], events: &[u8], tally: &[u8]) {
+    labelled(b"day", day);
+    labelled(b": calls", tally::count(tally, tally::CALLS));
+    labelled(b", clock", module::clock(events).0);
+    labelled(b", counters", counter_count(image));
+    labelled(b", entries", entry_count(image));
+    labelled(b", sum", tally::count(tally, tally::SUM));
+    line::end();
+}
+
+fn counted(label: &[u8], tally: &[u8], what: usize) {
+    labelled(label, tally::count(tally, what));
+    line::end();
+}
+
+fn refusals(tally: &[u8]) {
+    let mut number: usize = 14;
+    while number < 27 {
+        labelled(b"refused by", number as u32);
+        labelled(b":", tally::count(tally, number));
+        line::end();
+        number += 1;
+    }
+}
+
+fn image_sum(image: &[u8]) -> u32 {
+    let mut sum: u32 = 1;
+    let mut i: usize = 0;
+    while i < image.len() {
+        sum = tally::mixed(sum, wide(image[i]));
+        i += 1;
+    }
+    sum
+}
+
+fn calls(tally: &[u8]) {
+    counted(b"calls of the host:", tally, tally::CALLS);
+    counted(b"openings:", tally, tally::OPENINGS);
+    counted(b"ticks:", tally, tally::TICKS);
+    counted(b"raises:", tally, tally::RAISES);
+    refusals(tally);
+    counted(
+        b"old values that tablets came with:",
+        tally,
+        tally::OLD_VALUES,
+    );
+    counted(
+        b"of these held for a week or more:",
+        tally,
+        tally::WEEK_OLD_VALUES,
+    );
+    counted(
+        b"confirmations on the day of their proof:",
+        tally,
+        tally::ON_TIME,
+    );
+    counted(b"confirmations on a later day:", tally, tally::LATE);
+    counted(b"the latest, in days:", tally, tally::LATEST);
+    counted(b"most entries held:", tally, tally::MOST_ENTRIES);
+}
+
+fn proofs(tally: &[u8]) {
+    counted(b"proofs up to the clock:", tally, tally::PROVED);
+    counted(b"proofs up to a raise:", tally, tally::PROVED_LAST);
+    counted(
+        b"of these up to an earlier raise than the last:",
+        tally,
+        tally::PROVED_EARLIER,
+    );
+    counted(b"proofs that the desk accepts:", tally, tally::ACCEPTED);
+    counted(b"proofs that the desk refuses:", tally, tally::DESK_REFUSES);
+    counted(
+        b"values shown that are not the history's:",
+        tally,
+        tally::VALUE_DIFFERS,
+    );
+    counted(
+        b"values shown that are not the host's:",
+        tally,
+        tally::HOST_DIFFERS,
+    );
+    counted(
+        b"closing readings that are not those asked for:",
+        tally,
+        tally::CLOSING_DIFFERS,
+    );
+    counted(
+        b"values read that are not the history's:",
+        tally,
+        tally::READ_DIFFERS,
+    );
+    counted(
+        b"clock readings that are not the history's:",
+        tally,
+        tally::CLOCK_DIFFERS,
+    );
+}
+
+pub(crate) fn month(image: &[u8], tally: &[u8]) {
+    calls(tally);
+    proofs(tally);
+    labelled(b"proofs written, by the image:", proofs_written(image));
+    line::end();
+    labelled(b"sum of the image:", image_sum(image));
+    line::end();
+}

@@ -1,0 +1,109 @@
+// What the run counts, and the sum that every answer of host and desk and every value of the history goes into: numbers of 32 bits in a
+// buffer of their own. The first of them count the calls by the number that they answered.
+use crate::plan::PRIME;
+use forms::nonce::LEN;
+use forms::nonce::Nonce;
+use forms::number::get_u32;
+use forms::number::put_u32;
+use host::answer::Figures;
+use image::header::entry_count;
+
+const NUMBERS: usize = 64;
+
+pub(crate) const ROOM: usize = 4 * NUMBERS;
+
+pub(crate) const CALLS: usize = 32;
+
+pub(crate) const OPENINGS: usize = 33;
+
+pub(crate) const TICKS: usize = 34;
+
+pub(crate) const RAISES: usize = 35;
+
+pub(crate) const OLD_VALUES: usize = 36;
+
+pub(crate) const WEEK_OLD_VALUES: usize = 37;
+
+pub(crate) const ON_TIME: usize = 38;
+
+pub(crate) const LATE: usize = 39;
+
+pub(crate) const LATEST: usize = 40;
+
+pub(crate) const MOST_ENTRIES: usize = 41;
+
+pub(crate) const PROVED: usize = 42;
+
+pub(crate) const PROVED_LAST: usize = 43;
+
+pub(crate) const PROVED_EARLIER: usize = 44;
+
+pub(crate) const ACCEPTED: usize = 45;
+
+pub(crate) const DESK_REFUSES: usize = 46;
+
+pub(crate) const CLOCK_DIFFERS: usize = 47;
+
+pub(crate) const READ_DIFFERS: usize = 48;
+
+pub(crate) const CLOSING_DIFFERS: usize = 49;
+
+pub(crate) const VALUE_DIFFERS: usize = 50;
+
+pub(crate) const HOST_DIFFERS: usize = 51;
+
+pub(crate) const SUM: usize = 52;
+
+pub(crate) fn count(tally: &[u8], what: usize) -> u32 {
+    get_u32(tally, 4 * (what % NUMBERS))
+}
+
+pub(crate) fn set(tally: &mut [u8], what: usize, number: u32) {
+    put_u32(tally, 4 * (what % NUMBERS), number);
+}
+
+pub(crate) fn add(tally: &mut [u8], what: usize) {
+    let before = count(tally, what);
+    if before < u32::MAX {
+        set(tally, what, before + 1);
+    }
+}
+
+pub(crate) fn add_if(tally: &mut [u8], what: usize, holds: bool) {
+    if holds {
+        add(tally, what);
+    }
+}
+
+// Keeps the greatest of the numbers met.
+pub(crate) fn greatest(tally: &mut [u8], what: usize, number: u32) {
+    if count(tally, what) < number {
+        set(tally, what, number);
+    }
+}
+
+// A sum and one figure more.
+pub(crate) fn mixed(sum: u32, figure: u32) -> u32 {
+    ((sum as u64 * 65537 + figure as u64) % PRIME) as u32
+}
+
+pub(crate) fn mix(tally: &mut [u8], figure: u32) {
+    let sum = count(tally, SUM);
+    set(tally, SUM, mixed(sum, figure));
+}
+
+// Takes up what a call of the host answered, and how many entries the image holds after it.
+pub(crate) fn answered(tally: &mut [u8], image: &[u8], figures: Figures) {
+    add(tally, CALLS);
+    add(tally, figures.number as usize);
+    mix(tally, figures.number);
+    mix(tally, figures.value);
+    greatest(tally, MOST_ENTRIES, entry_count(image));
+}
+
+// A nonce that no call had before: the calls so far stand in it.
+pub(crate) fn nonce(tally: &[u8]) -> Nonce {
+    let mut nonce = [0x5Au8; LEN];
+    put_u32(&mut nonce, LEN - 4, count(tally, CALLS));
+    nonce
+}
