@@ -6,6 +6,7 @@ use mathlib.Core.List.{List}
 use lib.ListN.{take, drop}
 use borrow.Author.Tests.{ne-eqb}
 use Rattle.forms.specs.Terms.{sameId}
+use Rattle.forms.specs.TermsLaws.{same-id}
 use Rattle.forms.specs.declared.entry.Entry.{Entry}
 use Rattle.forms.specs.declared.event.Carried.{Carried}
 use Rattle.forms.specs.declared.event.ModuleEvent.{ModuleEvent}
@@ -18,7 +19,6 @@ use Rattle.history.specs.ValueLaws.{made-counts, counts-stays}
 use Rattle.assurance.specs.Accepted.{Passed, countOf}
 use Rattle.assurance.specs.DeskList.{Call, Item, history, entryOf, requestOf, Shows, Truth}
 use Rattle.assurance.specs.ListLaws.{history-grows}
-use Rattle.assurance.specs.Rows.{same-id}
 
 -- an increment that shows an entry's fields was made
 pub shows-made : (m : Made) (e : Entry) → Shows m e → (carried : Carried) × (m ≡ made carried (e .nonce))

@@ -15,6 +15,7 @@ use Rattle.forms.specs.PartsLaws.{EntryFits, EntriesFit, none, one-more}
 use Rattle.forms.specs.Proof.{encode}
 use Rattle.forms.specs.ProofLaws.{both}
 use Rattle.forms.specs.Terms.{globalClock, sameId}
+use Rattle.forms.specs.TermsLaws.{same-id}
 use Rattle.forms.specs.declared.confirmation.Confirmation.{Confirmation}
 use Rattle.forms.specs.declared.entry.Entry.{Entry}
 use Rattle.forms.specs.declared.terms.CounterId.{CounterId}
@@ -28,7 +29,6 @@ use Rattle.desk.specs.Desk.{allYes, verified}
 use Rattle.host.specs.LastLaws.{consecutive-drop}
 use Rattle.host.specs.Host.{recordOf, heldOf, entriesOf, currentOf, hasEntry, requestNonce, proofOf, lastEntries, lastOf}
 use Rattle.assurance.specs.AcceptLaws.{SetOut, read-accepted, increment-accepted}
-use Rattle.assurance.specs.Rows.{same-id}
 
 -- ---- some of the entries
 

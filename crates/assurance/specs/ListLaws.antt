@@ -11,11 +11,11 @@ use lib.ListN.{take, drop, getElem?, take-append-drop}
 use lib.Seq.{take-add}
 use borrow.Author.Tests.{eqb-false}
 use Rattle.forms.specs.Terms.{sameId}
+use Rattle.forms.specs.TermsLaws.{same-id}
 use Rattle.forms.specs.declared.confirmation.Confirmation.{Confirmation}
 use Rattle.forms.specs.declared.event.ModuleEvent.{ModuleEvent}
 use Rattle.forms.specs.declared.terms.CounterId.{CounterId}
 use Rattle.assurance.specs.DeskList.{Item, event, confirmed, call, At, history, Unopened, Opening}
-use Rattle.assurance.specs.Rows.{same-id}
 
 -- ---- the history
 

@@ -16,7 +16,8 @@ use Rattle.forms.specs.Checks.{Row, firstOf}
 use Rattle.forms.specs.Limits.{nonceLen}
 use Rattle.forms.specs.Proof.{miscounted, logOffset}
 use Rattle.forms.specs.ProofLaws.{both, count-some}
-use Rattle.forms.specs.Terms.{counterId, globalClock, sameId}
+use Rattle.forms.specs.Terms.{globalClock, sameId}
+use Rattle.forms.specs.TermsLaws.{same-id}
 use Rattle.forms.specs.declared.confirmation.Confirmation.{Confirmation}
 use Rattle.forms.specs.declared.proof.Kind.{Kind}
 use Rattle.forms.specs.declared.proof.Proof.{Proof}
@@ -75,10 +76,6 @@ neither false b e = (refl, e)
 not-second : (a b : Bool) → (a && b) ≡ false → a ≡ true → b ≡ false
 not-second true b e held = e
 not-second false b e held = absurd (false≢true held)
-
--- ids that name the same counter are the same
-pub same-id : (a b : CounterId) → sameId a b ≡ true → a ≡ b
-same-id a b e = ap counterId (eqb-true (a .0) (b .0) e)
 
 -- a lowest place that is 0
 pub none-lowest : (place : ℕ) → not (eqb place 0) ≡ false → place ≡ 0

@@ -17,3 +17,4 @@ pub mod Proof
 pub mod ProofLaws
 pub mod RoundTrip
 pub mod Terms
+pub mod TermsLaws

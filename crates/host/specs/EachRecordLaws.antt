@@ -6,8 +6,9 @@ use native.Mathlib.Omega.{arith}
 use mathlib.Core.Bool.{Bool, true, false, not, cond, _&&_, _||_, false≢true, or-false, or-assoc}
 use mathlib.Core.List.{List, [], _∷_, _++_}
 use lib.Dec.{eqb}
-use borrow.Author.Tests.{eqb-true, eqb-false, eq-eqb, ne-eqb}
-use Rattle.forms.specs.Terms.{counterId, sameId}
+use borrow.Author.Tests.{ne-eqb}
+use Rattle.forms.specs.Terms.{sameId}
+use Rattle.forms.specs.TermsLaws.{same-id, same-turned}
 use Rattle.forms.specs.declared.confirmation.Confirmation.{Confirmation}
 use Rattle.forms.specs.declared.terms.CounterId.{CounterId}
 use Rattle.forms.specs.declared.terms.GlobalClock.{GlobalClock}
@@ -37,15 +38,6 @@ each-snoc done q = more q done
 each-snoc (more p ps) q = more p (each-snoc ps q)
 
 -- ---- ids
-
--- ids that compare as the same are the same
-pub same-id : (a b : CounterId) → sameId a b ≡ true → a ≡ b
-same-id a b e = ap counterId (eqb-true (a .0) (b .0) e)
-
--- ids compare the same way round and the other way round
-pub same-turned : (a b : CounterId) (t : Bool) → sameId a b ≡ t → sameId b a ≡ t
-same-turned a b true e = eq-eqb (b .0) (a .0) (sym (eqb-true (a .0) (b .0) e))
-same-turned a b false e = ne-eqb (b .0) (a .0) (λ same. eqb-false (a .0) (b .0) e (sym same))
 
 -- ---- the record of a held counter
 

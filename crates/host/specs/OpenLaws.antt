@@ -11,6 +11,7 @@ use Rattle.forms.specs.Chain.{passes, chains}
 use Rattle.forms.specs.ChainLaws.{follows-other, step-other}
 use Rattle.forms.specs.ProofLaws.{both}
 use Rattle.forms.specs.Terms.{sameId}
+use Rattle.forms.specs.TermsLaws.{same-id}
 use Rattle.forms.specs.declared.confirmation.Confirmation.{Confirmation}
 use Rattle.forms.specs.declared.entry.Entry.{Entry}
 use Rattle.forms.specs.declared.terms.CounterId.{CounterId}
@@ -18,7 +19,7 @@ use Rattle.image.specs.State.{Record, State}
 use Rattle.image.specs.Sound.{holds, base, consecutive, namesHeld, named, after, soundState}
 use Rattle.host.specs.Host.{opened, openRefusal}
 use Rattle.host.specs.LogEndsLaws.{named-drop, named-wider}
-use Rattle.host.specs.EachRecordLaws.{Each, each-snoc, same-id, holds-snoc, distinct-snoc, oldest-snoc}
+use Rattle.host.specs.EachRecordLaws.{Each, each-snoc, holds-snoc, distinct-snoc, oldest-snoc}
 use Rattle.host.specs.RefusalLaws.{OpenPassed, open-passed}
 use Rattle.host.specs.SoundParts.{Chained, SoundState, sound-parts, sound-whole}
 
