@@ -75,7 +75,7 @@ output-taken r fields output id nonce value closing done at long accepted =
 
 module _ (s : List ℕ) (kept : Kept s) where
   -- prove shows what read gives on the same image
-  prove-fair : (nonce : List ℕ) (id : CounterId) (output : List ℕ) → id .0 < 2 ^ 32 → Fair s (HostCall.prove nonce id output)
+  pub prove-fair : (nonce : List ℕ) (id : CounterId) (output : List ℕ) → id .0 < 2 ^ 32 → Fair s (HostCall.prove nonce id output)
   prove-fair nonce id output id-fits e =
       let st : State = decode s in
       let fields : Fields = proofOf st nonce id in
@@ -92,7 +92,7 @@ module _ (s : List ℕ) (kept : Kept s) where
       )
 
   -- last shows the t asked for
-  last-fair : (id : CounterId) (t : GlobalClock) (output : List ℕ) → id .0 < 2 ^ 32 → Fair s (HostCall.last id t output)
+  pub last-fair : (id : CounterId) (t : GlobalClock) (output : List ℕ) → id .0 < 2 ^ 32 → Fair s (HostCall.last id t output)
   last-fair id t output id-fits e =
       let st : State = decode s in
       let fields : Fields = lastOf st id t in

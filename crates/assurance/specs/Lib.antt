@@ -16,4 +16,7 @@ pub mod HostProof
 pub mod HostProofs
 pub mod HostSteps
 pub mod ListLaws
+pub mod ProgramLines
+pub mod ProgramList
+pub mod ProgramProof
 pub mod Rows
