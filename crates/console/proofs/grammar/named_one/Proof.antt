@@ -51,4 +51,6 @@ other c =
 
 pub named-one-spec : {M : Type 1} → statement M
 named-one-spec =
-    tie.close (tie.spec (λ c. search needs) (λ c κs. search needs) start (λ c. search needs) (λ c κs. search needs) (λ c. search needs) tick no-byte (λ c. search needs) (λ c κs. search needs) read other)
+    tie.close
+    (tie.spec (λ c. search needs) (λ c κs. search needs) start (λ c. search needs) (λ c κs. search needs) (λ c. search needs) tick no-byte
+    (λ c. search needs) (λ c κs. search needs) read other)

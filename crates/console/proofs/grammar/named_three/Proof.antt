@@ -52,4 +52,5 @@ other c =
 pub named-three-spec : {M : Type 1} → statement M
 named-three-spec =
     tie.close
-    (tie.spec (λ c. search needs) (λ c κs. search needs) (λ c κs. search needs) opened (λ c. search needs) (λ c κs. search needs) (λ c. search needs) increment no-byte (λ c. search needs) (λ c κs. search needs) (λ c κs. search needs) confirmed other)
+    (tie.spec (λ c. search needs) (λ c κs. search needs) (λ c κs. search needs) opened (λ c. search needs) (λ c κs. search needs) (λ c. search needs)
+    increment no-byte (λ c. search needs) (λ c κs. search needs) (λ c κs. search needs) confirmed other)

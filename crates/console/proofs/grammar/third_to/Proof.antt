@@ -11,5 +11,6 @@ three c = sym (ap₂ thirdTo (c .before .before .before .before .given .given .1
 pub third-to-spec : {M : Type 1} → statement M
 third-to-spec =
     tie.close
-    (tie.spec (λ c. search needs) (λ c. search needs) (λ c. search needs) (λ c. search needs) (λ c. search needs) (λ c. search needs) three (λ c. search needs)
+    (tie.spec (λ c. search needs) (λ c. search needs) (λ c. search needs) (λ c. search needs) (λ c. search needs) (λ c. search needs) three
+    (λ c. search needs)
     (λ c. search needs) (λ c. search needs) (λ c. search needs))
