@@ -4,6 +4,8 @@ pub mod Desk
 pub mod DeskLaws
 pub mod Lowest
 pub mod LowestLaws
-pub mod Passes
+pub mod Progress
+pub mod ProgressLaws
+pub mod Reader
 pub mod VerdictsLaws
 pub mod WalkLaws

@@ -2,6 +2,7 @@
 pub mod answer;
 mod closing;
 mod log;
+mod reader;
 mod verdicts;
 pub mod verify;
 mod whole;

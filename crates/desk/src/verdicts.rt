@@ -7,8 +7,6 @@ ghost use mathlib.Core.Path.{_≡_};
 ghost use mathlib.Core.Bool.{false};
 ghost use Prim.Native.Nat.{_+_, _*_, _≤_};
 ghost use lib.ListN.{length};
-ghost use Rattle.forms.specs.Limits.{maxEntries};
-ghost use Rattle.forms.specs.Proof.{miscounted};
 ghost use Rattle.desk.specs.Lowest.{lowest};
 ghost use Rattle.desk.specs.Desk.{verdictsBefore, zeroOrOne, badVerdicts, certificateDenied, moduleDenied};
 
@@ -61,7 +59,7 @@ pub(crate) fn certificate_denied(proof: Proof, verdicts: &[u8]) -> bool
 
 // Check 9 at the entries: the place of the first that the module denies, 0 where there is none.
 pub(crate) fn first_denied(verdicts: &[u8], before: usize, count: u32) -> u32
-    requires { ⌜ (before ≤ 2) × (count ≤ maxEntries) × (before + 2 * count ≤ length (now verdicts)) ⌝ }
+    requires { ⌜ before + 2 * count ≤ length (now verdicts) ⌝ }
     ensures { λ r. ⌜ r ≡ lowest (moduleDenied (now (verdicts .entry)) before) count ⌝ }
 {
     let mut at = before;
