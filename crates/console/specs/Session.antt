@@ -2,13 +2,15 @@
 -- read in parts. Assumes nothing.
 use Prim.Native.Nat.{ℕ, _+_, _/_}
 use mathlib.Core.Bool.{Bool, true, false, cond}
+use mathlib.Core.Path.{_≡_}
 use mathlib.Core.List.{List, [], _∷_, _++_}
 use lib.Dec.{eqb, leb, ltb}
-use lib.ListN.{length, take, replicate}
+use lib.ListN.{length, take, drop, replicate}
 use Rattle.forms.specs.Limits.{imageLen}
 use Rattle.host.specs.Host.{Settled}
 use Rattle.console.specs.Grammar.{Command, commandOf}
 use Rattle.console.specs.Step.{ran, answerText, maxAnswer}
+use Rattle.console.specs.declared.session.Fed.{Fed}
 use Rattle.console.specs.declared.session.Line.{Line}
 
 abbrev pub newline : ℕ
@@ -105,3 +107,11 @@ fedSession line image part room = cond (leb (length part) (room / maxAnswer)) (t
 -- the end of the input, with room for an answer
 unfoldable pub endedSession : Line → List ℕ → ℕ → Session
 endedSession line image room = cond (leb maxAnswer room) (ended (resumed line image)) (resumed line image)
+
+-- where the code stands behind a call: its line is the session's, its image too, and the text stands at the start of its buffer, with the rest as
+-- it was
+pub record Printed (k : Session) (before : List ℕ) (fed : Fed) (image text : List ℕ) : Type 0 where
+  pub pending : pendingOf (fed .line) ≡ k .pending
+  pub at-image : image ≡ k .image
+  pub len : fed .len ≡ length (k .text)
+  pub at-text : text ≡ k .text ++ drop (length (k .text)) before

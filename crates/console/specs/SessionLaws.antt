@@ -15,7 +15,7 @@ use Rattle.host.specs.declared.answer.Figures.{Figures}
 use Rattle.console.specs.Grammar.{Command}
 use Rattle.console.specs.AnswerLaws.{answer-short}
 use Rattle.console.specs.Step.{answerText, maxAnswer, ran}
-use Rattle.console.specs.Session.{Session, Pending, within, over, begun, byteTaken, closed, ended, endedSession, extended, fedSession, maxLine, newline, pendingCommand, pendingOf, printed, resumed, taken}
+use Rattle.console.specs.Session.{Session, Printed, Pending, within, over, begun, byteTaken, closed, ended, endedSession, extended, fedSession, maxLine, newline, pendingCommand, pendingOf, printed, resumed, taken}
 use Rattle.console.specs.declared.session.Fed.{Fed}
 use Rattle.console.specs.declared.session.Line.{Line}
 
@@ -31,13 +31,6 @@ pub record Took (k : Session) (before : List ℕ) (fed : Fed) (image text : List
   pub len : fed .len ≡ length (k .text)
   pub behind : drop (fed .len) text ≡ drop (fed .len) before
   pub same-length : length text ≡ length before
-
--- the text stands at the start of its buffer, with the rest as it was
-pub record Printed (k : Session) (before : List ℕ) (fed : Fed) (image text : List ℕ) : Type 0 where
-  pub pending : pendingOf (fed .line) ≡ k .pending
-  pub at-image : image ≡ k .image
-  pub len : fed .len ≡ length (k .text)
-  pub at-text : text ≡ k .text ++ drop (length (k .text)) before
 
 -- ---- what the code holds of a line
 

@@ -8,9 +8,9 @@ ghost use mathlib.Core.Path.{_≡_};
 ghost use Prim.Native.Nat.{_+_, _≤_};
 ghost use lib.ListN.{length};
 ghost use mathlib.Core.List.{[]};
-ghost use Rattle.console.specs.Session.{begun, byteTaken, closed, endedSession, extended, fedSession, pendingCommand, pendingOf, within};
+ghost use Rattle.console.specs.Session.{Printed, begun, byteTaken, closed, endedSession, extended, fedSession, pendingCommand, pendingOf, within};
 ghost use Rattle.console.specs.Step.{maxAnswer};
-ghost use Rattle.console.specs.SessionLaws.{Printed, Took, sessionAt};
+ghost use Rattle.console.specs.SessionLaws.{Took, sessionAt};
 
 // The most bytes of a line before its newline.
 pub const MAX_LINE: usize = 80;

@@ -4,8 +4,8 @@ use Prim.Native.Nat.{zero-le}
 use borrow.Author.Needs.{needs}
 use borrow.Author.Tests.{not-true, not-false}
 use lib.ListN.{length}
-use Rattle.console.specs.Session.{Session}
-use Rattle.console.specs.SessionLaws.{Printed, ended-short, ended-idle, ended-closed, printed-at, took-printed}
+use Rattle.console.specs.Session.{Printed, Session}
+use Rattle.console.specs.SessionLaws.{ended-short, ended-idle, ended-closed, printed-at, took-printed}
 use Rattle.console.proofs.session.finish.Statement.{statement}
 use Rattle.console.proofs.session.finish.Tie as tie
 
