@@ -4,11 +4,10 @@
  *
  * To link, on x86-64 Linux, from the top of the repository:
  *
- *     rt staticlib desk
- *     rt staticlib host
- *     cc -Iinclude prog.c target/staticlib/libhost.a target/staticlib/libdesk.a
+ *     rt staticlib vmc
+ *     cc -Iinclude prog.c target/staticlib/libvmc.a
  *
- * A program that only verifies needs only libdesk.a. The archives need no other library.
+ * The archive needs no other library.
  */
 #ifndef VMC_H
 #define VMC_H

@@ -14,14 +14,14 @@ use Rattle.forms.specs.Chain.{valueAfter, chains}
 use Rattle.forms.specs.Entry.{entryAt, entriesAt, logBytes}
 use Rattle.forms.specs.Limits.{nonceLen, entryLen, maxEntries}
 use Rattle.forms.specs.PartsLaws.{ConfirmationFits, EntriesFit, entries-drop, entries-snoc, length-entries, log-bytes, length-log}
-use Rattle.forms.specs.Proof.{Fields, read, increment, encode, decode, headerOf, headerBytes, parsed, logOffset}
-use Rattle.forms.specs.RoundTrip.{Taken, Takes, decode-encode, encode-reads}
 use Rattle.forms.specs.declared.certificate.Certificate.{Certificate}
 use Rattle.forms.specs.declared.confirmation.Confirmation.{Confirmation}
 use Rattle.forms.specs.declared.entry.Entry.{Entry}
-use Rattle.forms.specs.declared.proof.Kind.{Kind}
-use Rattle.forms.specs.declared.proof.Parsed.{Parsed}
 use Rattle.forms.specs.declared.terms.CounterId.{CounterId}
+use Rattle.validity.specs.Proof.{Fields, read, increment, encode, decode, headerOf, headerBytes, parsed, logOffset}
+use Rattle.validity.specs.RoundTrip.{Taken, Takes, decode-encode, encode-reads}
+use Rattle.validity.specs.declared.proof.Kind.{Kind}
+use Rattle.validity.specs.declared.proof.Parsed.{Parsed}
 use Rattle.image.specs.Sound.{consecutive}
 use Rattle.desk.specs.declared.answer.Answer.{Answer}
 use Rattle.desk.specs.Desk.{confirmation, certificate, entry, verdictsBefore, badWanted, closesElsewhere, wrongClosing, closing, verified}
@@ -92,7 +92,7 @@ entriesIn (increment c n entries) = entries
 
 -- they read back from fields that writing takes, in kind 1
 read-back : (c : Confirmation) (k : Certificate) (n : ℕ) (entries : List ℕ) → Takes (read c k n entries)
-    → (confirmation (encode (read c k n entries)) ≡ c) × (certificate (encode (read c k n entries)) ≡ k) × (drop 60 (encode (read c k n entries)) ≡ entries)
+    → (confirmation (encode (read c k n entries)) ≡ c) × (certificate (encode (read c k n entries)) ≡ k) × (drop (logOffset Kind.Read) (encode (read c k n entries)) ≡ entries)
 unfolding confirmationIn certificateIn entriesIn decode encode headerOf headerBytes
 read-back c k n entries takes =
     let e = decode-encode (read c k n entries) takes in
@@ -100,7 +100,7 @@ read-back c k n entries takes =
 
 -- and in kind 2
 increment-back : (c : Confirmation) (n : ℕ) (entries : List ℕ) → Takes (increment c n entries)
-    → (confirmation (encode (increment c n entries)) ≡ c) × (drop 36 (encode (increment c n entries)) ≡ entries)
+    → (confirmation (encode (increment c n entries)) ≡ c) × (drop (logOffset Kind.Increment) (encode (increment c n entries)) ≡ entries)
 unfolding confirmationIn entriesIn decode encode headerOf headerBytes
 increment-back c n entries takes =
     let e = decode-encode (increment c n entries) takes in
@@ -146,7 +146,7 @@ module _ (id : CounterId) (nonce : List ℕ) (c : Confirmation) (es : List Entry
       let s = encode (read c k (length es) (logBytes es)) in
       let takes : Takes (read c k (length es) (logBytes es)) = (taken, record { reading = fits; nonce = ap length asked ∙ wanted .long }) in
       let back = read-back c k (length es) (logBytes es) takes in
-      back-accepted Kind.Read s (back .0) (entries-back s 60 es (set-out .entries-fit) (back .2)) (encode-reads (read c k (length es) (logBytes es)) takes)
+      back-accepted Kind.Read s (back .0) (entries-back s (logOffset Kind.Read) es (set-out .entries-fit) (back .2)) (encode-reads (read c k (length es) (logBytes es)) takes)
       (nonce-same (certificate s .nonce) nonce (wanted .long) (ap (λ (j : Certificate). j .nonce) (back .1) ∙ asked))
       (ap not (eq-eqb (certificate s .reading .0) (confirmation s .reading .0 + length es)
       (ap (λ (j : Certificate). j .reading .0) (back .1) ∙ reached ∙ ap (λ (j : Confirmation). j .reading .0 + length es) (sym (back .0)))))
@@ -161,11 +161,11 @@ module _ (id : CounterId) (nonce : List ℕ) (c : Confirmation) (es : List Entry
       let some : 1 ≤ length es = omega (arith, ap length ends ∙ length-append front (last ∷ [])) in
       let takes : Takes (increment c (length es) (logBytes es)) = (taken, some) in
       let back = increment-back c (length es) (logBytes es) takes in
-      let entries = entries-back s 36 es (set-out .entries-fit) (back .1) in
-      let end : entry s 36 (length es) ≡ last = last-back s 36 es front last entries ends in
+      let entries = entries-back s (logOffset Kind.Increment) es (set-out .entries-fit) (back .1) in
+      let end : entry s (logOffset Kind.Increment) (length es) ≡ last = last-back s (logOffset Kind.Increment) es front last entries ends in
       back-accepted Kind.Increment s (back .0) entries (encode-reads (increment c (length es) (logBytes es)) takes)
       (ap₂ (λ (a b : Bool). not a || b)
-      (eq-eqb (entry s 36 (length es) .id .0) (id .0) (ap (λ (e : Entry). e .id .0) end ∙ ap (λ (i : CounterId). i .0) own))
-      (nonce-same (entry s 36 (length es) .nonce) nonce (wanted .long) (ap (λ (e : Entry). e .nonce) end ∙ asked)))
+      (eq-eqb (entry s (logOffset Kind.Increment) (length es) .id .0) (id .0) (ap (λ (e : Entry). e .id .0) end ∙ ap (λ (i : CounterId). i .0) own))
+      (nonce-same (entry s (logOffset Kind.Increment) (length es) .nonce) nonce (wanted .long) (ap (λ (e : Entry). e .nonce) end ∙ asked)))
       refl
       ∙ ap (λ (e : Entry). Answer.Accepted (valueAfter id (c .value) es) (e .reading)) end

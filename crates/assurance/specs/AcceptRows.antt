@@ -13,13 +13,13 @@ use Rattle.forms.specs.ChainLaws.{chains-cons}
 use Rattle.forms.specs.Checks.{Row, firstOf}
 use Rattle.forms.specs.Entry.{entryAt, entriesAt}
 use Rattle.forms.specs.Limits.{entryLen}
-use Rattle.forms.specs.Proof.{parsed, logOffset}
-use Rattle.forms.specs.ProofLaws.{both}
+use Rattle.forms.specs.TestsLaws.{both}
 use Rattle.forms.specs.Terms.{sameId}
-use Rattle.forms.specs.declared.proof.Kind.{Kind}
-use Rattle.forms.specs.declared.proof.Parsed.{Parsed}
-use Rattle.forms.specs.declared.proof.Proof.{Proof}
 use Rattle.forms.specs.declared.terms.CounterId.{CounterId}
+use Rattle.validity.specs.Proof.{parsed, logOffset}
+use Rattle.validity.specs.declared.proof.Kind.{Kind}
+use Rattle.validity.specs.declared.proof.Parsed.{Parsed}
+use Rattle.validity.specs.declared.proof.Proof.{Proof}
 use Rattle.image.specs.Sound.{consecutive}
 use Rattle.desk.specs.declared.answer.Answer.{Answer}
 use Rattle.desk.specs.Desk.{confirmation, entry, verdictsBefore, verdictCount, zeroOrOne, badWanted, badVerdicts, badConfirmation, certificateDenied, moduleDenied, closesElsewhere, wrongReading, wrongClosing, ownerDenied, breaksChain, laterChecks, accepted, judged, verified}

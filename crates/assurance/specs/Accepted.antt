@@ -8,11 +8,11 @@ use Rattle.forms.specs.Chain.{follows, valueAfter}
 use Rattle.forms.specs.Entry.{entriesAt}
 use Rattle.forms.specs.Limits.{nonceLen}
 use Rattle.forms.specs.Terms.{globalClock}
-use Rattle.forms.specs.Proof.{shapeAt, logOffset, parsed, readNumber}
-use Rattle.forms.specs.ProofLaws.{Reads, parsed-reads, reads-parsed}
-use Rattle.forms.specs.declared.proof.Kind.{Kind}
-use Rattle.forms.specs.declared.proof.Parsed.{Parsed}
-use Rattle.forms.specs.declared.proof.Proof.{Proof}
+use Rattle.validity.specs.Proof.{shapeAt, logOffset, parsed, readNumber}
+use Rattle.validity.specs.ProofLaws.{Reads, parsed-reads, reads-parsed}
+use Rattle.validity.specs.declared.proof.Kind.{Kind}
+use Rattle.validity.specs.declared.proof.Parsed.{Parsed}
+use Rattle.validity.specs.declared.proof.Proof.{Proof}
 use Rattle.desk.specs.Answer.{figures}
 use Rattle.desk.specs.declared.answer.Answer.{Answer}
 use Rattle.desk.specs.Desk.{confirmation, certificate, verdictsBefore, verdictCount, moduleVerdict, ownerVerdict, badWanted, moduleDenied, wrongReading, ownerDenied, valueBefore, breaksChain, laterChecks, accepted, judged, verified}

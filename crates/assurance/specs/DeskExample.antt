@@ -7,13 +7,13 @@ use lib.ListN.{replicate}
 use Rattle.forms.specs.Bytes.{same}
 use Rattle.forms.specs.Entry.{logBytes}
 use Rattle.forms.specs.Event.{increment, clockRead}
-use Rattle.forms.specs.Proof.{Fields, encode}
 use Rattle.forms.specs.Terms.{counterId, globalClock}
 use Rattle.forms.specs.declared.confirmation.Confirmation.{Confirmation}
 use Rattle.forms.specs.declared.entry.Entry.{Entry}
 use Rattle.forms.specs.declared.event.Carried.{Carried}
 use Rattle.forms.specs.declared.terms.CounterId.{CounterId}
 use Rattle.forms.specs.declared.terms.GlobalClock.{GlobalClock}
+use Rattle.validity.specs.Proof.{Fields, encode}
 use Rattle.history.specs.Value.{Signatures}
 use Rattle.assurance.specs.DeskList.{Call, Item, event, confirmed, call}
 

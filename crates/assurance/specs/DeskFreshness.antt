@@ -8,14 +8,14 @@ use native.Mathlib.Omega.{arith}
 use lib.ListN.{take, drop}
 use Rattle.forms.specs.Event.{increment, clockRead}
 use Rattle.forms.specs.declared.event.ModuleEvent.{ModuleEvent}
-use Rattle.forms.specs.declared.proof.Kind.{Kind}
 use Rattle.forms.specs.declared.terms.GlobalClock.{GlobalClock}
-use Rattle.desk.specs.Desk.{certificate}
+use Rattle.validity.specs.declared.proof.Kind.{Kind}
 use Rattle.history.specs.History.{adds, clockAfter, incrementAt, Stands}
 use Rattle.history.specs.HistoryLaws.{made-stands, stands-within}
 use Rattle.history.specs.Nonce.{New}
 use Rattle.history.specs.NonceLaws.{new-before, new-stands-later, stands-not-new}
 use Rattle.history.specs.Value.{Signatures}
+use Rattle.desk.specs.Desk.{certificate}
 use Rattle.assurance.specs.Accepted.{Passed, countOf, accepted-passed}
 use Rattle.assurance.specs.DeskList.{Call, Item, history, Accepted, closes, kindOf, entryOf, Truth, Fresh}
 use Rattle.assurance.specs.EntryCounts.{shows-made}

@@ -6,7 +6,6 @@ use mathlib.Core.Bool.{true}
 use mathlib.Core.List.{List, [], _∷_}
 use mathlib.Core.Option.{some}
 use lib.ListN.{getD, take, getElem?}
-use Rattle.forms.specs.Proof.{logOffset, shapeAt}
 use Rattle.forms.specs.Terms.{globalClock}
 use Rattle.forms.specs.declared.terms.CounterId.{CounterId}
 use Rattle.forms.specs.declared.terms.GlobalClock.{GlobalClock}
@@ -14,13 +13,14 @@ use Rattle.forms.specs.declared.confirmation.Confirmation.{Confirmation}
 use Rattle.forms.specs.declared.entry.Entry.{Entry}
 use Rattle.forms.specs.declared.event.Carried.{Carried}
 use Rattle.forms.specs.declared.event.ModuleEvent.{ModuleEvent}
-use Rattle.forms.specs.declared.proof.Kind.{Kind}
-use Rattle.desk.specs.Answer.{figures}
-use Rattle.desk.specs.declared.answer.Figures.{Figures}
-use Rattle.desk.specs.Desk.{verified, confirmation, certificate, entry, verdictsBefore, moduleVerdict, ownerVerdict}
+use Rattle.validity.specs.Proof.{logOffset, shapeAt}
+use Rattle.validity.specs.declared.proof.Kind.{Kind}
 use Rattle.history.specs.History.{clockAfter, Made, made, unmade, incrementAt, ReadStands}
 use Rattle.history.specs.Nonce.{New}
 use Rattle.history.specs.Value.{Signatures, Request, valueAt}
+use Rattle.desk.specs.Answer.{figures}
+use Rattle.desk.specs.declared.answer.Figures.{Figures}
+use Rattle.desk.specs.Desk.{verified, confirmation, certificate, entry, verdictsBefore, moduleVerdict, ownerVerdict}
 
 -- ---- the list
 

@@ -7,14 +7,14 @@ use mathlib.Core.Logic.{_⊎_, inl, inr}
 use mathlib.Core.List.{List}
 use native.Mathlib.Nat.{le-refl}
 use native.Mathlib.Omega.{arith}
-use Rattle.forms.specs.Proof.{logOffset}
 use Rattle.forms.specs.declared.confirmation.Confirmation.{Confirmation}
 use Rattle.forms.specs.declared.terms.CounterId.{CounterId}
 use Rattle.forms.specs.declared.terms.GlobalClock.{GlobalClock}
-use Rattle.desk.specs.Desk.{confirmation}
+use Rattle.validity.specs.Proof.{logOffset}
 use Rattle.history.specs.Value.{Signatures, counts, valueAt}
 use Rattle.history.specs.ValueLaws.{valueAt-opened, valueAt-walks-on}
 use Rattle.history.specs.Walk.{walk}
+use Rattle.desk.specs.Desk.{confirmation}
 use Rattle.assurance.specs.Accepted.{Passed, countOf, accepted-passed}
 use Rattle.assurance.specs.DeskList.{Call, Item, confirmed, call, At, history, shown, Accepted, closes, kindOf, Truth, Unopened, Opening, MadeFrom, Supposed, Sound}
 use Rattle.assurance.specs.EntryCounts.{entry-counts}

@@ -15,16 +15,16 @@ use Rattle.forms.specs.Chain.{step, follows, valueAfter}
 use Rattle.forms.specs.Confirmation.{confirmationAt, confirmationBytes}
 use Rattle.forms.specs.Entry.{entryAt, entriesAt, entryBytes, logBytes}
 use Rattle.forms.specs.Event.{increment}
-use Rattle.forms.specs.Proof.{headerOf, headerBytes, encode}
 use Rattle.forms.specs.Terms.{counterId, globalClock}
 use Rattle.forms.specs.declared.confirmation.Confirmation.{Confirmation}
 use Rattle.forms.specs.declared.event.Carried.{Carried}
 use Rattle.forms.specs.declared.terms.CounterId.{CounterId}
-use Rattle.desk.specs.Desk.{zeroOrOne, badWanted, badVerdicts, badConfirmation, certificateDenied, moduleDenied, closesElsewhere, wrongReading, wrongClosing, ownerDenied, breaksChain, closing, verified}
-use Rattle.desk.specs.Lowest.{lowestFrom}
+use Rattle.validity.specs.Proof.{headerOf, headerBytes, encode}
 use Rattle.history.specs.History.{increments, clockAfter, incrementAt}
 use Rattle.history.specs.Nonce.{New}
 use Rattle.history.specs.Value.{valueAt}
+use Rattle.desk.specs.Desk.{zeroOrOne, badWanted, badVerdicts, badConfirmation, certificateDenied, moduleDenied, closesElsewhere, wrongReading, wrongClosing, ownerDenied, breaksChain, closing, verified}
+use Rattle.desk.specs.Lowest.{lowestFrom}
 use Rattle.assurance.specs.DeskExample.{nonce, seven, nine, start, signed, opening, later, entryFor, by-read, left-out, by-increment, items}
 use Rattle.assurance.specs.DeskList.{Call, Item, event, confirmed, call, At, history, shown, Accepted, closes, entryOf, requestOf, Shows, Truth, Unopened, Opening, MadeFrom, Supposed}
 use Rattle.assurance.specs.DeskProof.{desk-claim}

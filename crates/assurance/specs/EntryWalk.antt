@@ -14,9 +14,9 @@ use Rattle.forms.specs.Terms.{globalClock, sameId}
 use Rattle.forms.specs.declared.entry.Entry.{Entry}
 use Rattle.forms.specs.declared.terms.CounterId.{CounterId}
 use Rattle.forms.specs.declared.terms.GlobalClock.{GlobalClock}
-use Rattle.desk.specs.Desk.{entry}
 use Rattle.history.specs.Walk.{pass, walk}
 use Rattle.history.specs.WalkLaws.{walk-first, walk-append, walk-uncounted}
+use Rattle.desk.specs.Desk.{entry}
 
 -- no reading above the one and below the other counts
 abbrev pub Uncounted : (GlobalClock → Bool) → ℕ → ℕ → Type 0

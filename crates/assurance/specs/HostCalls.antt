@@ -6,10 +6,10 @@ use mathlib.Core.Bool.{Bool, true, not, cond}
 use mathlib.Core.List.{List}
 use borrow.Author.Tests.{ne-eqb}
 use Rattle.forms.specs.Bytes.{Bytes}
-use Rattle.forms.specs.Proof.{encode, proofLen, shapeOf}
-use Rattle.forms.specs.ProofLaws.{both}
+use Rattle.forms.specs.TestsLaws.{both}
 use Rattle.forms.specs.declared.terms.CounterId.{CounterId}
 use Rattle.forms.specs.declared.terms.GlobalClock.{GlobalClock}
+use Rattle.validity.specs.Proof.{encode, proofLen, shapeOf}
 use Rattle.image.specs.ImageRoundTrip.{StateFits, decode-fits}
 use Rattle.image.specs.State.{State, decode}
 use Rattle.image.specs.Sound.{holds, laidOut, soundState, sound}

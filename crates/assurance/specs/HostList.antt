@@ -7,10 +7,10 @@ use lib.ListN.{length, take}
 use Rattle.forms.specs.Bytes.{Bytes}
 use Rattle.forms.specs.Limits.{imageLen}
 use Rattle.forms.specs.PartsLaws.{ConfirmationFits}
-use Rattle.forms.specs.Proof.{Fields, encode}
 use Rattle.forms.specs.declared.confirmation.Confirmation.{Confirmation}
 use Rattle.forms.specs.declared.terms.CounterId.{CounterId}
 use Rattle.forms.specs.declared.terms.GlobalClock.{GlobalClock}
+use Rattle.validity.specs.Proof.{Fields, encode}
 use Rattle.image.specs.State.{decode}
 use Rattle.desk.specs.Answer.{figures}
 use Rattle.desk.specs.Desk.{allYes, verified}

@@ -11,12 +11,12 @@ use Rattle.forms.specs.Bytes.{Bytes}
 use Rattle.forms.specs.Chain.{step, valueAfter}
 use Rattle.forms.specs.Entry.{entryOf}
 use Rattle.forms.specs.Limits.{nonceLen, imageLen}
-use Rattle.forms.specs.Proof.{shapeOf, proofLen}
 use Rattle.forms.specs.Terms.{counterId, globalClock}
 use Rattle.forms.specs.declared.confirmation.Confirmation.{Confirmation}
 use Rattle.forms.specs.declared.event.Carried.{Carried}
 use Rattle.forms.specs.declared.terms.CounterId.{CounterId}
 use Rattle.forms.specs.declared.terms.GlobalClock.{GlobalClock}
+use Rattle.validity.specs.Proof.{shapeOf, proofLen}
 use Rattle.image.specs.FitLaws.{start-fits, append-entry-fits, store-written-fits, append-record-fits}
 use Rattle.image.specs.ImageRoundTrip.{StateFits, decode-encode, encode-sound}
 use Rattle.image.specs.Sound.{holds, oldest, after, current, soundState}

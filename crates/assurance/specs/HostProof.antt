@@ -13,11 +13,11 @@ use Rattle.forms.specs.Confirmation.{confirmationBytes}
 use Rattle.forms.specs.Entry.{logBytes}
 use Rattle.forms.specs.Limits.{nonceLen, entryLen}
 use Rattle.forms.specs.PartsLaws.{EntriesFit, length-log}
-use Rattle.forms.specs.Proof.{Fields, read, increment, shapeOf, proofLen, headerOf, headerBytes, encode}
 use Rattle.forms.specs.declared.certificate.Certificate.{Certificate}
 use Rattle.forms.specs.declared.confirmation.Confirmation.{Confirmation}
 use Rattle.forms.specs.declared.terms.CounterId.{CounterId}
 use Rattle.forms.specs.declared.terms.GlobalClock.{GlobalClock}
+use Rattle.validity.specs.Proof.{Fields, read, increment, shapeOf, proofLen, headerOf, headerBytes, encode}
 use Rattle.image.specs.ImageRoundTrip.{decode-fits, sound-laid-out}
 use Rattle.image.specs.Sound.{base, after}
 use Rattle.image.specs.State.{State, decode}

@@ -12,14 +12,14 @@ use Rattle.forms.specs.Chain.{valueAfter, chains}
 use Rattle.forms.specs.ChainLaws.{chains-append, value-snoc, step-own}
 use Rattle.forms.specs.Limits.{nonceLen}
 use Rattle.forms.specs.PartsLaws.{EntryFits, EntriesFit, none, one-more}
-use Rattle.forms.specs.Proof.{encode}
-use Rattle.forms.specs.ProofLaws.{both}
+use Rattle.forms.specs.TestsLaws.{both}
 use Rattle.forms.specs.Terms.{globalClock, sameId}
 use Rattle.forms.specs.TermsLaws.{same-id}
 use Rattle.forms.specs.declared.confirmation.Confirmation.{Confirmation}
 use Rattle.forms.specs.declared.entry.Entry.{Entry}
 use Rattle.forms.specs.declared.terms.CounterId.{CounterId}
 use Rattle.forms.specs.declared.terms.GlobalClock.{GlobalClock}
+use Rattle.validity.specs.Proof.{encode}
 use Rattle.image.specs.ImageRoundTrip.{StateFits}
 use Rattle.image.specs.State.{Record, State}
 use Rattle.image.specs.Sound.{holds, distinct, bounded, oldest, consecutive, base, spanned, named, after, chained, current, soundState}

@@ -13,13 +13,13 @@ use Rattle.forms.specs.Checks.{Row, firstOf}
 use Rattle.forms.specs.Entry.{entryOf}
 use Rattle.forms.specs.Limits.{nonceLen, imageLen, maxEntries}
 use Rattle.forms.specs.PartsLaws.{ConfirmationFits}
-use Rattle.forms.specs.Proof.{shapeOf, proofLen}
-use Rattle.forms.specs.ProofLaws.{both}
+use Rattle.forms.specs.TestsLaws.{both}
 use Rattle.forms.specs.Terms.{sameId, globalClock}
 use Rattle.forms.specs.declared.confirmation.Confirmation.{Confirmation}
 use Rattle.forms.specs.declared.event.Carried.{Carried}
 use Rattle.forms.specs.declared.terms.CounterId.{CounterId}
 use Rattle.forms.specs.declared.terms.GlobalClock.{GlobalClock}
+use Rattle.validity.specs.Proof.{shapeOf, proofLen}
 use Rattle.image.specs.FitLaws.{start-fits, append-entry-fits, store-clock-fits, store-written-fits, append-record-fits, drop-entries-fits}
 use Rattle.image.specs.ImageParts.{RecordsFit}
 use Rattle.image.specs.ImageRoundTrip.{StateFits, length-encode, encode-bytes, encode-sound, decode-fits, sound-decode, sound-laid-out}

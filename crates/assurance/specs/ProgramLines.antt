@@ -8,7 +8,7 @@ use lib.Dec.{leb}
 use lib.ListN.{length, replicate}
 use borrow.Author.Tests.{leb-true}
 use Rattle.forms.specs.Bytes.{Bytes, same}
-use Rattle.forms.specs.ProofLaws.{both}
+use Rattle.forms.specs.TestsLaws.{both}
 use Rattle.host.specs.Host.{largest}
 use Rattle.console.specs.Grammar.{startName, openName, tickName, incName, readName, proveName, lastName, confirmName, oneOf, twoOf, thirdTo, argumentsOf, ofByte, named, byWords, words, commandOf}
 use Rattle.console.specs.Numeral.{unpadded, allDigits, valueOf, figureOf}

@@ -9,9 +9,9 @@ use lib.Dec.{eqb}
 use lib.ListN.{length, take, replicate, length-replicate}
 use borrow.Author.Tests.{eqb-true, eq-eqb}
 use Rattle.forms.specs.Limits.{imageLen}
-use Rattle.forms.specs.Proof.{Fields}
 use Rattle.forms.specs.declared.terms.CounterId.{CounterId}
 use Rattle.forms.specs.declared.terms.GlobalClock.{GlobalClock}
+use Rattle.validity.specs.Proof.{Fields}
 use Rattle.image.specs.State.{decode}
 use Rattle.desk.specs.Answer.{figures}
 use Rattle.desk.specs.Desk.{allYes, verified}

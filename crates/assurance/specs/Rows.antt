@@ -2,7 +2,7 @@
 -- table's order. Assumes nothing.
 use Prim.Native.Nat.{ℕ, zero, suc, _+_, _≤_}
 use mathlib.Core.Path.{_≡_, refl, sym, ap, subst, _∙_}
-use mathlib.Core.Bool.{Bool, true, false, not, cond, _&&_, _||_, true≢false, false≢true}
+use mathlib.Core.Bool.{Bool, true, false, not, cond, _&&_, false≢true}
 use mathlib.Core.List.{List, [], _∷_}
 use native.Mathlib.Omega.{arith}
 use lib.Dec.{eqb, leb, ltb}
@@ -14,15 +14,16 @@ use Rattle.forms.specs.BytesLaws.{same-equal, window-part}
 use Rattle.forms.specs.Chain.{follows}
 use Rattle.forms.specs.Checks.{Row, firstOf}
 use Rattle.forms.specs.Limits.{nonceLen}
-use Rattle.forms.specs.Proof.{miscounted, logOffset}
-use Rattle.forms.specs.ProofLaws.{both, count-some}
+use Rattle.forms.specs.TestsLaws.{both, neither, not-second}
 use Rattle.forms.specs.Terms.{globalClock, sameId}
 use Rattle.forms.specs.TermsLaws.{same-id}
 use Rattle.forms.specs.declared.confirmation.Confirmation.{Confirmation}
-use Rattle.forms.specs.declared.proof.Kind.{Kind}
-use Rattle.forms.specs.declared.proof.Proof.{Proof}
 use Rattle.forms.specs.declared.terms.CounterId.{CounterId}
 use Rattle.forms.specs.declared.terms.GlobalClock.{GlobalClock}
+use Rattle.validity.specs.Proof.{miscounted, logOffset}
+use Rattle.validity.specs.ProofLaws.{count-some}
+use Rattle.validity.specs.declared.proof.Kind.{Kind}
+use Rattle.validity.specs.declared.proof.Proof.{Proof}
 use Rattle.desk.specs.Answer.{figures}
 use Rattle.desk.specs.declared.answer.Answer.{Answer}
 use Rattle.desk.specs.Desk.{confirmation, certificate, entry, verdictCount, zeroOrOne, isNo, moduleVerdict, ownerVerdict, badWanted, badVerdicts, badConfirmation, certificateDenied, moduleDenied, closesElsewhere, wrongReading, wrongClosing, ownerDenied, valueBefore, breaksChain, closing}
@@ -65,23 +66,11 @@ answer-behind [] otherwise passed = refl
 answer-behind (row ∷ rows) otherwise passed =
     ap (λ (held : Bool). cond held (row .answer) (firstOf rows otherwise)) (passed 0) ∙ answer-behind rows otherwise (λ k. passed (suc k))
 
--- ---- tests
-
--- where neither of two tests holds
-neither : (a b : Bool) → (a || b) ≡ false → (a ≡ false) × (b ≡ false)
-neither true b e = absurd (true≢false e)
-neither false b e = (refl, e)
-
--- where a second test does not hold though the first does
-not-second : (a b : Bool) → (a && b) ≡ false → a ≡ true → b ≡ false
-not-second true b e held = e
-not-second false b e held = absurd (false≢true held)
+-- ---- the rows
 
 -- a lowest place that is 0
 pub none-lowest : (place : ℕ) → not (eqb place 0) ≡ false → place ≡ 0
 none-lowest place e = eqb-true place 0 (not-false (eqb place 0) e)
-
--- ---- the rows
 
 -- 1
 pub wanted-some : (id : CounterId) (nonce : List ℕ) → badWanted id nonce ≡ false → (id .0 ≡ 0 → ⊥) × (length nonce ≡ nonceLen)

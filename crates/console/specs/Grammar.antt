@@ -4,9 +4,9 @@ use mathlib.Core.Bool.{cond}
 use mathlib.Core.List.{List, [], _∷_}
 use lib.Dec.{eqb, leb}
 use Rattle.forms.specs.Bytes.{same}
-use Rattle.forms.specs.Checks.{_gives_, firstOf}
+use Rattle.forms.specs.Checks.{Row, _gives_, firstOf}
+use Rattle.forms.specs.Confirmation.{confirmationOf}
 use Rattle.forms.specs.Terms.{counterId, globalClock}
-use Rattle.forms.specs.declared.confirmation.Confirmation.{Confirmation}
 use Rattle.console.specs.Numeral.{Figure, figureOf}
 pub use Rattle.console.specs.declared.grammar.Arguments.{Arguments}
 pub use Rattle.console.specs.declared.grammar.Command.{Command}
@@ -86,34 +86,36 @@ abbrev pub ofByte : ℕ → Command → Command
 ofByte b command = cond (leb b 255) command Command.Other
 
 -- "Lines: `start clock`, .., `tick b`, .., `read box`"
-abbrev pub namedOne : List ℕ → ℕ → Command
-namedOne name a =
-    firstOf
-    ((same name startName gives Command.Start (globalClock a))
+abbrev pub oneRows : List ℕ → ℕ → List (Row Command)
+oneRows name a =
+    (same name startName gives Command.Start (globalClock a))
     ∷ (same name tickName gives ofByte a (Command.Tick a))
     ∷ (same name readName gives Command.Read (counterId a))
-    ∷ [])
-    Command.Other
+    ∷ []
+
+abbrev pub namedOne : List ℕ → ℕ → Command
+namedOne name a = firstOf (oneRows name a) Command.Other
 
 -- "`prove b box`, `last box t`"
-abbrev pub namedTwo : List ℕ → ℕ → ℕ → Command
-namedTwo name a b =
-    firstOf
-    ((same name proveName gives ofByte a (Command.Prove a (counterId b)))
+abbrev pub twoRows : List ℕ → ℕ → ℕ → List (Row Command)
+twoRows name a b =
+    (same name proveName gives ofByte a (Command.Prove a (counterId b)))
     ∷ (same name lastName gives Command.Last (counterId a) (globalClock b))
-    ∷ [])
-    Command.Other
+    ∷ []
+
+abbrev pub namedTwo : List ℕ → ℕ → ℕ → Command
+namedTwo name a b = firstOf (twoRows name a b) Command.Other
 
 -- "`open box value reading`, `inc b box value`, `confirm box value reading`"
-abbrev pub namedThree : List ℕ → ℕ → ℕ → ℕ → Command
-namedThree name a b c =
-    let confirmation : Confirmation = record { id = counterId a; value = b; reading = globalClock c } in
-    firstOf
-    ((same name openName gives Command.Open confirmation)
+abbrev pub threeRows : List ℕ → ℕ → ℕ → ℕ → List (Row Command)
+threeRows name a b c =
+    (same name openName gives Command.Open (confirmationOf a b c))
     ∷ (same name incName gives ofByte a (Command.Increment a (counterId b) c))
-    ∷ (same name confirmName gives Command.Confirm confirmation)
-    ∷ [])
-    Command.Other
+    ∷ (same name confirmName gives Command.Confirm (confirmationOf a b c))
+    ∷ []
+
+abbrev pub namedThree : List ℕ → ℕ → ℕ → ℕ → Command
+namedThree name a b c = firstOf (threeRows name a b c) Command.Other
 
 abbrev pub named : List ℕ → Arguments → Command
 named name (Arguments.One a) = namedOne name a

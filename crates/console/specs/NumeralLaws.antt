@@ -10,8 +10,8 @@ use lib.Dec.{leb, ltb}
 use lib.ListN.{length, take, drop, getD, length-append, length-take, length-drop}
 use lib.Seq.{drop-cons, getD-take, getD-drop}
 use borrow.Author.Tests.{lt-ltb, le-ltb, ltb-true, ltb-false, le-leb, lt-leb, leb-true, leb-false, eq-eqb, ne-eqb}
-use Rattle.io.specs.Digits.{digits, glyph, Fewest}
 use Rattle.host.specs.Host.{largest}
+use Rattle.io.specs.Digits.{digits, glyph, Fewest}
 use Rattle.console.specs.Numeral.{Figure, zeroDigit, numeral, numeralIn, maxDigits, isDigit, allDigits, valueFrom, unpadded, figureOf}
 
 -- ---- a number read

@@ -8,6 +8,7 @@ use mathlib.Core.List.{List, [], _∷_, _++_, append-assoc, append-nil}
 use lib.Dec.{eqb, leb, ltb}
 use lib.ListN.{length, length-append}
 use borrow.Author.Tests.{lt-ltb, le-ltb, ltb-true, ltb-false, le-leb, leb-true, leb-false, eqb-false, ne-eqb, not-true}
+use Rattle.forms.specs.TestsLaws.{both}
 use Rattle.host.specs.Host.{largest}
 use Rattle.console.specs.Numeral.{Figure, zeroDigit, numeral, numeralIn, maxDigits, isDigit, allDigits, valueFrom, valueOf, unpadded, figureOf}
 use Rattle.console.specs.NumeralLaws.{digit-within}
@@ -124,11 +125,6 @@ value-least n (b ∷ s) =
     (subst (λ (m : ℕ). m ≤ (n * 10 + (b - zeroDigit)) * 10 ^ length s) (mul-assoc n 10 (10 ^ length s) ∙ ap (λ (m : ℕ). n * m) (sym (pow-succ' 10 (length s))))
     (mul-le-mul-right (10 ^ length s) (omega arith)))
     (value-least (n * 10 + (b - zeroDigit)) s)
-
--- both of two tests
-both : (a b : Bool) → (a && b) ≡ true → (a ≡ true) × (b ≡ true)
-both true b e = (refl, e)
-both false b e = absurd (false≢true e)
 
 digit-least : (b : ℕ) → isDigit b ≡ true → (zeroDigit ≤ b) × (b < zeroDigit + 10)
 digit-least b e = let t = both (leb zeroDigit b) (ltb b (zeroDigit + 10)) e in (leb-true _ _ (t .0), ltb-true _ _ (t .1))

@@ -9,17 +9,17 @@ use lib.Dec.{eqb, lit<}
 use lib.ListN.{length, take, drop, replicate, length-replicate}
 use borrow.Author.Tests.{eq-eqb, ne-eqb}
 use Rattle.forms.specs.Entry.{entryAt, entriesAt}
+use Rattle.forms.specs.Limits.{entryLen, maxEntries, maxProofLen}
+use Rattle.forms.specs.Terms.{sameId}
+use Rattle.forms.specs.declared.entry.Entry.{Entry}
+use Rattle.forms.specs.declared.terms.CounterId.{CounterId}
+use Rattle.forms.specs.declared.terms.GlobalClock.{GlobalClock}
+use Rattle.validity.specs.Proof.{Fields, logOffset, proofLen, shapeOf}
+use Rattle.validity.specs.declared.proof.Kind.{Kind}
+use Rattle.validity.specs.declared.proof.Proof.{Proof}
 use Rattle.image.specs.LogLaws.{entries-first}
 use Rattle.image.specs.Sound.{base, after}
 use Rattle.image.specs.State.{State, decode, entryCount}
-use Rattle.forms.specs.Limits.{entryLen, maxEntries, maxProofLen}
-use Rattle.forms.specs.Proof.{Fields, logOffset, proofLen, shapeOf}
-use Rattle.forms.specs.Terms.{sameId}
-use Rattle.forms.specs.declared.entry.Entry.{Entry}
-use Rattle.forms.specs.declared.proof.Kind.{Kind}
-use Rattle.forms.specs.declared.proof.Proof.{Proof}
-use Rattle.forms.specs.declared.terms.CounterId.{CounterId}
-use Rattle.forms.specs.declared.terms.GlobalClock.{GlobalClock}
 use Rattle.desk.specs.Desk.{verdictsBefore, verdictCount, allYes, verified}
 use Rattle.host.specs.DoneLaws.{settled-passed, value-given}
 use Rattle.host.specs.Host.{hasEntry, requestNonce, heldOf, proofOf, lastOf, proveRefusal, lastRefusal, counted, proveCall, lastCall, proveOutput, lastOutput}

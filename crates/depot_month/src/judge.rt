@@ -8,9 +8,9 @@ use crate::tally;
 use desk::verify::verify;
 use forms::entry::Entry;
 use forms::nonce::Nonce;
-use forms::proof::Kind;
-use forms::proof::Proof;
 use forms::terms::GlobalClock;
+use validity::proof::Kind;
+use validity::proof::Proof;
 
 // Verdict bytes of the longest proof.
 const VERDICTS: usize = 2 + 2 * (Proof::MAX_ENTRIES as usize);

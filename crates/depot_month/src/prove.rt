@@ -10,12 +10,12 @@ use crate::raise::current;
 use crate::tally;
 use forms::event::ModuleEvent;
 use forms::nonce::Nonce;
-use forms::proof::Kind;
-use forms::proof::Proof;
 use forms::terms::GlobalClock;
 use host::answer::Figures;
 use host::last::last;
 use host::prove::prove;
+use validity::proof::Kind;
+use validity::proof::Proof;
 
 // The host's answer to prove.
 fn prove_asked(

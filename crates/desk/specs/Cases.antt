@@ -13,10 +13,10 @@ use Rattle.forms.specs.Confirmation.{confirmationAt, confirmationBytes}
 use Rattle.forms.specs.Certificate.{certificateAt, certificateBytes}
 use Rattle.forms.specs.Entry.{entryAt, entryBytes, entriesAt, logBytes}
 use Rattle.forms.specs.Chain.{step, follows, valueAfter}
-use Rattle.forms.specs.Proof.{Fields, read, increment, headerOf, headerBytes, encode}
 use Rattle.forms.specs.declared.terms.CounterId.{CounterId}
 use Rattle.forms.specs.declared.confirmation.Confirmation.{Confirmation}
 use Rattle.forms.specs.declared.entry.Entry.{Entry}
+use Rattle.validity.specs.Proof.{Fields, read, increment, headerOf, headerBytes, encode}
 use Rattle.desk.specs.Answer.{Figures, figures}
 use Rattle.desk.specs.Lowest.{lowestFrom}
 use Rattle.desk.specs.Desk.{allYes, zeroOrOne, badWanted, badVerdicts, badConfirmation, certificateDenied, moduleDenied}
@@ -149,7 +149,9 @@ in-table c (x ∷ xs) t (List·Memᴰ·head e) = subst⁻¹ Holds e (agreed x (b
 in-table c (x ∷ xs) t (List·Memᴰ·tail m) = in-table c xs (both (agrees x) (every xs) t .1) m
 
 computed : T (every cases)
-unfolding every agrees cases verified badWanted badVerdicts badConfirmation certificateDenied moduleDenied closesElsewhere wrongReading wrongClosing ownerDenied breaksChain closing zeroOrOne lowestFrom window same confirmationAt confirmationBytes certificateAt certificateBytes entryAt entryBytes entriesAt logBytes step follows valueAfter headerOf headerBytes encode
+unfolding every agrees cases verified badWanted badVerdicts badConfirmation certificateDenied moduleDenied closesElsewhere wrongReading
+    wrongClosing ownerDenied breaksChain closing zeroOrOne lowestFrom window same confirmationAt confirmationBytes certificateAt
+    certificateBytes entryAt entryBytes entriesAt logBytes step follows valueAfter headerOf headerBytes encode
 computed = tt
 
 pub cases-hold : (c : Case) → List·Memᴰ c cases → Holds c

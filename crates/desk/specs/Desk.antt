@@ -1,4 +1,4 @@
--- The desk's answer to a validity proof: document 01, "The desk". One row of `checks` for each row of its table, in its order; where a
+-- The desk's answer to a validity proof: document 01, "The desk". One row of `verified` for each row of its table, in its order; where a
 -- number is given for two things, one row for each. Assumes nothing.
 use Prim.Native.Nat.{ℕ, _+_, _-_, _*_}
 use mathlib.Core.Bool.{Bool, true, false, not, _&&_, _||_}
@@ -13,14 +13,14 @@ use Rattle.forms.specs.declared.terms.GlobalClock.{GlobalClock}
 use Rattle.forms.specs.declared.confirmation.Confirmation.{Confirmation}
 use Rattle.forms.specs.declared.certificate.Certificate.{Certificate}
 use Rattle.forms.specs.declared.entry.Entry.{Entry}
-use Rattle.forms.specs.declared.proof.Kind.{Kind}
-use Rattle.forms.specs.declared.proof.Proof.{Proof}
 use Rattle.forms.specs.Checks.{Row, _gives_, firstOf}
 use Rattle.forms.specs.Confirmation.{confirmationAt}
 use Rattle.forms.specs.Certificate.{certificateAt}
 use Rattle.forms.specs.Entry.{entryAt, entriesAt}
 use Rattle.forms.specs.Chain.{follows, valueAfter}
-use Rattle.forms.specs.Proof.{Fields, shapeOf, knownForm, shapeAt, miscounted, laidOut, confirmationOffset, certificateOffset, logOffset}
+use Rattle.validity.specs.declared.proof.Kind.{Kind}
+use Rattle.validity.specs.declared.proof.Proof.{Proof}
+use Rattle.validity.specs.Proof.{Fields, shapeOf, knownForm, shapeAt, miscounted, laidOut, confirmationOffset, certificateOffset, logOffset}
 use Rattle.desk.specs.Answer.{Answer}
 use Rattle.desk.specs.Lowest.{lowest}
 

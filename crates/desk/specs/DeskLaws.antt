@@ -6,10 +6,10 @@ use mathlib.Core.List.{List}
 use lib.Dec.{ltb}
 use lib.ListN.{length}
 use Rattle.forms.specs.Limits.{proofHeaderLen}
-use Rattle.forms.specs.Proof.{knownForm, shapeAt, miscounted, laidOut, parsed}
-use Rattle.forms.specs.declared.proof.Parsed.{Parsed}
-use Rattle.forms.specs.declared.proof.Proof.{Proof}
 use Rattle.forms.specs.declared.terms.CounterId.{CounterId}
+use Rattle.validity.specs.Proof.{knownForm, shapeAt, miscounted, laidOut, parsed}
+use Rattle.validity.specs.declared.proof.Parsed.{Parsed}
+use Rattle.validity.specs.declared.proof.Proof.{Proof}
 use Rattle.desk.specs.Answer.{Answer}
 use Rattle.desk.specs.Desk.{badWanted, judged, verified}
 

@@ -1,8 +1,8 @@
 // The verdict list: one byte each, 0 no and 1 yes, for the confirmation, in a read's proof the clock certificate, and then for each entry
 // the module's and the owner's.
 use forms::bytes::byte_at;
-use forms::proof::Kind;
-use forms::proof::Proof;
+use validity::proof::Kind;
+use validity::proof::Proof;
 ghost use mathlib.Core.Path.{_≡_};
 ghost use mathlib.Core.Bool.{false};
 ghost use Prim.Native.Nat.{_+_, _*_, _≤_};

@@ -8,14 +8,14 @@ use crate::verdicts;
 use forms::bytes::byte_at;
 use forms::confirmation::Confirmation;
 use forms::nonce;
-use forms::proof::Parsed;
-use forms::proof::Proof;
-use forms::proof::parse;
 use forms::terms::CounterId;
+use validity::proof::Parsed;
+use validity::proof::Proof;
+use validity::proof::parse;
 ghost use mathlib.Core.Path.{_≡_};
 ghost use mathlib.Core.Bool.{false};
 ghost use lib.ListN.{length};
-ghost use Rattle.forms.specs.Proof.{miscounted, proofLen};
+ghost use Rattle.validity.specs.Proof.{miscounted, proofLen};
 ghost use Rattle.desk.specs.Desk.{badWanted, badConfirmation, judged, verified};
 
 // Check 1: whether what is wanted can't be.

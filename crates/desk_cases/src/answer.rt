@@ -4,7 +4,6 @@ use crate::case::NOT_GIVEN;
 use crate::line;
 use crate::part::front;
 use desk::answer::Figures;
-use desk::vmc_desk_verify;
 use forms::bytes::put;
 use forms::certificate::Certificate;
 use forms::confirmation::Confirmation;
@@ -12,10 +11,11 @@ use forms::entry::Entry;
 use forms::event::Carried;
 use forms::nonce::LEN;
 use forms::number::put_u32;
-use forms::proof::Proof;
 use forms::terms::CounterId;
 use forms::terms::GlobalClock;
-use forms::writing::write;
+use validity::proof::Proof;
+use validity::writing::write;
+use vmc::dock::vmc_desk_verify;
 
 // The figures of an entry in a log: reading, nonce byte, counter and value before.
 pub const FIGURES: usize = 4;

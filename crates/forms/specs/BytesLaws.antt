@@ -1,16 +1,16 @@
 -- Laws of parts of bytes, of storing over them and of comparing them. Assumes nothing.
 use mathlib.Core.Path.{_≡_, refl, sym, ap, ap₂, _∙_, subst}
-use Prim.Native.Nat.{ℕ, zero, suc, _+_, _≤_, _<_, zero-le}
+use Prim.Native.Nat.{ℕ, zero, suc, _+_, _≤_, _<_}
 use native.Mathlib.Nat.{zero-add, add-zero, add-suc, suc-add, add-assoc, le-of-suc-le-suc, not-suc-le-zero}
 use native.Mathlib.Omega.{arith}
 use mathlib.Core.Bool.{Bool, true, false, cond, _&&_, false≢true}
 use mathlib.Core.List.{List, [], _∷_, _++_, append-assoc}
 use lib.ListN.{length, replicate, getD, take, drop, length-append, length-take, length-drop, List·getD-eq-default}
-use lib.Seq.{getD-drop, sets, sets-eq, paste, take-length, drop-cons, take-at, drop-at, length-take-le, drop-append-add, drop-drop, take-append-le, drop-append-le}
+use lib.Seq.{getD-drop, sets, sets-eq, paste, take-length, drop-cons, take-at, drop-at, length-take-le, drop-drop}
 use mathlib.Core.Logic.{_↔_}
 use lib.Dec.{leb, eqb}
-use borrow.Author.Tests.{le-leb, lt-leb, eqb-true, eq-eqb, leb-true, leb-false}
-use Rattle.forms.specs.Bytes.{Bytes, window, splice, overwrite, same}
+use borrow.Author.Tests.{le-leb, lt-leb, eqb-true, eq-eqb, leb-true}
+use Rattle.forms.specs.Bytes.{window, splice, overwrite, same}
 
 -- ---- a window
 

@@ -5,9 +5,13 @@ use Rattle.forms.specs.Number.{be32, digits}
 use Rattle.forms.specs.Terms.{counterId, globalClock}
 pub use Rattle.forms.specs.declared.confirmation.Confirmation.{Confirmation}
 
+-- the confirmation of these figures
+abbrev pub confirmationOf : ℕ → ℕ → ℕ → Confirmation
+confirmationOf id value reading = record { id = counterId id; value = value; reading = globalClock reading }
+
 -- the confirmation at place k
 unfoldable pub confirmationAt : List ℕ → ℕ → Confirmation
-confirmationAt s k = record { id = counterId (be32 s k); value = be32 s (k + 4); reading = globalClock (be32 s (k + 8)) }
+confirmationAt s k = confirmationOf (be32 s k) (be32 s (k + 4)) (be32 s (k + 8))
 
 unfoldable pub confirmationBytes : Confirmation → List ℕ
 confirmationBytes c = digits 4 (c .id .0) ++ digits 4 (c .value) ++ digits 4 (c .reading .0)

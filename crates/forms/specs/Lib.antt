@@ -13,8 +13,6 @@ pub mod Limits
 pub mod Number
 pub mod NumberLaws
 pub mod PartsLaws
-pub mod Proof
-pub mod ProofLaws
-pub mod RoundTrip
 pub mod Terms
 pub mod TermsLaws
+pub mod TestsLaws

@@ -2,11 +2,11 @@
 -- number reads the same wherever its bytes stand. Assumes nothing.
 use mathlib.Core.Path.{_≡_, refl, sym, ap, ap₂, _∙_, subst}
 use Prim.Native.Nat.{ℕ, zero, suc, _+_, _*_, _/_, _%_, _^_, _≤_, _<_}
-use native.Mathlib.Nat.{zero-add, add-assoc, pow-suc, pow-succ', div-div-eq-div-mul, div-add-mod', div-lt-iff-lt-mul, mod-lt}
+use native.Mathlib.Nat.{zero-add, add-assoc, pow-suc, pow-succ', div-div-eq-div-mul, div-add-mod', div-lt-iff-lt-mul}
 use native.Mathlib.Omega.{arith}
 use mathlib.Core.List.{List, [], _∷_, _++_, append-assoc}
 use lib.ListN.{length, getD, drop, List·getD-append, List·getD-eq-default}
-use lib.Seq.{getD-at, getD-drop, getD-append-add}
+use lib.Seq.{getD-at, getD-drop}
 use lib.Arith.{digits-lt, digits-div, digits-mod}
 use lib.Dec.{lit<}
 use Rattle.forms.specs.Bytes.{Bytes, window}

@@ -1,6 +1,6 @@
 // The forms that desk and host share: document 01's words as types, their limits, and the byte forms of numbers, confirmations,
-// clock certificates, log entries and validity proofs. Every read and every write is total: bytes that are not there read as 0,
-// and what does not fit is not stored.
+// clock certificates and log entries. Every read and every write is total: bytes that are not there read as 0, and what does not fit
+// is not stored.
 pub mod bytes;
 pub mod certificate;
 pub mod confirmation;
@@ -9,6 +9,4 @@ pub mod event;
 pub mod image;
 pub mod nonce;
 pub mod number;
-pub mod proof;
 pub mod terms;
-pub mod writing;

@@ -6,9 +6,9 @@ use crate::sample;
 use forms::bytes::byte_at;
 use forms::bytes::put;
 use forms::entry::Entry;
-use forms::proof::parse;
-use forms::proof::parse_number;
-use forms::writing::write;
+use validity::proof::parse;
+use validity::proof::parse_number;
+use validity::writing::write;
 
 const ROOM: usize = sample::OUTPUT_LEN;
 

@@ -8,11 +8,11 @@ use forms::entry::Entry;
 use forms::event::Carried;
 use forms::event::Event;
 use forms::event::ModuleEvent;
-use forms::proof::Kind;
-use forms::proof::Parsed;
-use forms::proof::Proof;
-use forms::proof::parse;
-use forms::proof::parse_number;
+use validity::proof::Kind;
+use validity::proof::Parsed;
+use validity::proof::Proof;
+use validity::proof::parse;
+use validity::proof::parse_number;
 
 // Prints id, value and reading.
 pub(crate) fn confirmation(s: &[u8]) {

@@ -3,7 +3,7 @@ use crate::checksum;
 use crate::line;
 use crate::part;
 use crate::sample;
-use forms::writing::write;
+use validity::writing::write;
 
 const ROOM: usize = sample::OUTPUT_LEN;
 

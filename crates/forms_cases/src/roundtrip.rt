@@ -7,7 +7,7 @@ use crate::sample;
 use forms::certificate::Certificate;
 use forms::confirmation::Confirmation;
 use forms::entry::Entry;
-use forms::writing::write;
+use validity::writing::write;
 
 // Writes the fields, then prints number, value, what the bytes written read as and the whole output; then the fields read back.
 fn written(

@@ -5,9 +5,9 @@ use forms::entry::Entry;
 use forms::event::Carried;
 use forms::nonce::LEN;
 use forms::nonce::Nonce;
-use forms::proof::Proof;
 use forms::terms::CounterId;
 use forms::terms::GlobalClock;
+use validity::proof::Proof;
 
 // One entry more than a proof may have.
 pub const ENTRIES: u32 = Proof::MAX_ENTRIES + 1;

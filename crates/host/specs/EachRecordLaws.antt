@@ -12,9 +12,10 @@ use Rattle.forms.specs.TermsLaws.{same-id, same-turned}
 use Rattle.forms.specs.declared.confirmation.Confirmation.{Confirmation}
 use Rattle.forms.specs.declared.terms.CounterId.{CounterId}
 use Rattle.forms.specs.declared.terms.GlobalClock.{GlobalClock}
+use Rattle.forms.specs.TestsLaws.{neither}
 use Rattle.image.specs.State.{Record}
 use Rattle.image.specs.Sound.{holds, distinct, oldest}
-use Rattle.image.specs.PassLaws.{or-left, or-right, distinct-parts, nonzero}
+use Rattle.image.specs.PassLaws.{distinct-parts, nonzero}
 use Rattle.host.specs.Host.{recordOf, replaced}
 
 -- something holds of every record of a list
@@ -105,13 +106,13 @@ unfolding distinct holds
 distinct-snoc [] r differ new some = ap (λ (b : Bool). not b && true) (ne-eqb (r .held .id .0) 0 some)
 distinct-snoc (x ∷ rs) r differ new some =
     ap₂ (λ (a b : Bool). not a && (not b && distinct (rs ++ (r ∷ [])))) (ne-eqb (x .held .id .0) 0 (nonzero x rs differ)) unheld
-    ∙ distinct-snoc rs r (distinct-parts x rs differ .1) (or-right (sameId (x .held .id) (r .held .id)) (holds rs (r .held .id)) new) some
+    ∙ distinct-snoc rs r (distinct-parts x rs differ .1) (neither (sameId (x .held .id) (r .held .id)) (holds rs (r .held .id)) new .1) some
   where
     unheld : holds (rs ++ (r ∷ [])) (x .held .id) ≡ false
     unheld =
         holds-snoc rs r (x .held .id)
         ∙ ap₂ _||_ (distinct-parts x rs differ .0)
-        (same-turned (x .held .id) (r .held .id) false (or-left (sameId (x .held .id) (r .held .id)) (holds rs (r .held .id)) new))
+        (same-turned (x .held .id) (r .held .id) false (neither (sameId (x .held .id) (r .held .id)) (holds rs (r .held .id)) new .0))
 
 -- ---- a confirmation put in the place of the held one
 

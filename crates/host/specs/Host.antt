@@ -9,13 +9,13 @@ use Rattle.forms.specs.Chain.{valueAfter}
 use Rattle.forms.specs.Checks.{Row, _gives_, firstOf}
 use Rattle.forms.specs.Entry.{entryOf, logBytes}
 use Rattle.forms.specs.Limits.{nonceLen, imageLen, maxCounters, maxEntries}
-use Rattle.forms.specs.Proof.{Fields, read, increment, shapeOf, proofLen, encode as proofBytes}
 use Rattle.forms.specs.Terms.{counterId, globalClock, sameId}
 use Rattle.forms.specs.declared.confirmation.Confirmation.{Confirmation}
 use Rattle.forms.specs.declared.entry.Entry.{Entry}
 use Rattle.forms.specs.declared.event.Carried.{Carried}
 use Rattle.forms.specs.declared.terms.CounterId.{CounterId}
 use Rattle.forms.specs.declared.terms.GlobalClock.{GlobalClock}
+use Rattle.validity.specs.Proof.{Fields, read, increment, shapeOf, proofLen, encode as proofBytes}
 use Rattle.image.specs.State.{Record, State, decode, encode}
 use Rattle.image.specs.Sound.{holds, oldest, base, after, current, sound}
 pub use Rattle.host.specs.declared.answer.Figures.{Figures}

@@ -9,7 +9,7 @@ use lib.Dec.{eqb}
 use borrow.Author.Tests.{ne-eqb}
 use Rattle.forms.specs.Chain.{passes, chains}
 use Rattle.forms.specs.ChainLaws.{follows-other, step-other}
-use Rattle.forms.specs.ProofLaws.{both}
+use Rattle.forms.specs.TestsLaws.{both}
 use Rattle.forms.specs.Terms.{sameId}
 use Rattle.forms.specs.TermsLaws.{same-id}
 use Rattle.forms.specs.declared.confirmation.Confirmation.{Confirmation}

@@ -11,9 +11,9 @@ use Rattle.forms.specs.Limits.{nonceLen, maxCounters, maxEntries}
 use Rattle.forms.specs.declared.confirmation.Confirmation.{Confirmation}
 use Rattle.forms.specs.declared.terms.CounterId.{CounterId}
 use Rattle.forms.specs.declared.terms.GlobalClock.{GlobalClock}
+use Rattle.forms.specs.TestsLaws.{neither}
 use Rattle.image.specs.State.{State}
 use Rattle.image.specs.Sound.{holds}
-use Rattle.image.specs.PassLaws.{or-left, or-right}
 use Rattle.host.specs.Host.{largest, heldOf, currentOf, valueAt, openRefusal, tickRefusal, incrementRefusal, confirmRefusal, proveRefusal, lastRefusal, hasEntry, entriesOf}
 
 -- where a table gives 0, a first row with another number was passed over, and the rest gives 0
@@ -43,13 +43,13 @@ open-passed st c verdict e =
     let h = refusal-passed _ 21 _ refl (g .1) in
     record {
       agreed = eqb-true verdict 1 (not-false _ (a .0));
-      named = eqb-false (c .id .0) 0 (or-left _ _ (b .0));
-      low = ltb-false (c .reading .0) (c .value) (or-right (eqb (c .id .0) 0) _ (b .0));
+      named = eqb-false (c .id .0) 0 (neither _ _ (b .0) .0);
+      low = ltb-false (c .reading .0) (c .value) (neither (eqb (c .id .0) 0) _ (b .0) .1);
       unheld = d .0;
       room = eqb-false (length (st .records)) maxCounters (f .0);
       recent = ltb-false (c .reading .0) (st .clock .0 - length (st .log)) (g .0);
-      past = ltb-false (st .clock .0) (c .reading .0) (or-left _ _ (h .0));
-      equal = eqb-true (c .value) (c .reading .0) (not-false _ (or-right (ltb (st .clock .0) (c .reading .0)) _ (h .0)));
+      past = ltb-false (st .clock .0) (c .reading .0) (neither _ _ (h .0) .0);
+      equal = eqb-true (c .value) (c .reading .0) (not-false _ (neither (ltb (st .clock .0) (c .reading .0)) _ (h .0) .1));
     }
 
 -- ---- tick: 16, 24, 25
@@ -92,8 +92,8 @@ increment-passed st nonce id before verdict e =
     let h = refusal-passed _ 25 _ refl (g .1) in
     record {
       agreed = eqb-true verdict 1 (not-false _ (a .0));
-      named = eqb-false (id .0) 0 (or-left _ _ (b .0));
-      long = eqb-true (length nonce) nonceLen (not-false _ (or-right (eqb (id .0) 0) _ (b .0)));
+      named = eqb-false (id .0) 0 (neither _ _ (b .0) .0);
+      long = eqb-true (length nonce) nonceLen (not-false _ (neither (eqb (id .0) 0) _ (b .0) .1));
       held = not-false _ (d .0);
       current = eqb-true before (currentOf st id) (not-false _ (f .0));
       room = eqb-false (length (st .log)) maxEntries (g .0);
@@ -114,8 +114,8 @@ prove-passed st nonce id len room e =
     let b = refusal-passed _ 17 _ refl (a .1) in
     let d = refusal-passed _ 26 _ refl (b .1) in
     record {
-      named = eqb-false (id .0) 0 (or-left _ _ (a .0));
-      long = eqb-true (length nonce) nonceLen (not-false _ (or-right (eqb (id .0) 0) _ (a .0)));
+      named = eqb-false (id .0) 0 (neither _ _ (a .0) .0);
+      long = eqb-true (length nonce) nonceLen (not-false _ (neither (eqb (id .0) 0) _ (a .0) .1));
       held = not-false _ (b .0);
       fits = ltb-false room len (d .0);
     }
@@ -161,10 +161,10 @@ confirm-passed st c verdict e =
     let g = refusal-passed _ 21 _ refl (f .1) in
     record {
       agreed = eqb-true verdict 1 (not-false _ (a .0));
-      named = eqb-false (c .id .0) 0 (or-left _ _ (b .0));
-      low = ltb-false (c .reading .0) (c .value) (or-right (eqb (c .id .0) 0) _ (b .0));
+      named = eqb-false (c .id .0) 0 (neither _ _ (b .0) .0);
+      low = ltb-false (c .reading .0) (c .value) (neither (eqb (c .id .0) 0) _ (b .0) .1);
       held = not-false _ (d .0);
       later = ltb-false (c .reading .0) (heldOf st (c .id) .reading .0) (f .0);
-      past = ltb-false (st .clock .0) (c .reading .0) (or-left _ _ (g .0));
-      value = eqb-true (c .value) (valueAt st (c .id) (c .reading)) (not-false _ (or-right (ltb (st .clock .0) (c .reading .0)) _ (g .0)));
+      past = ltb-false (st .clock .0) (c .reading .0) (neither _ _ (g .0) .0);
+      value = eqb-true (c .value) (valueAt st (c .id) (c .reading)) (not-false _ (neither (ltb (st .clock .0) (c .reading .0)) _ (g .0) .1));
     }

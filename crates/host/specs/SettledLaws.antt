@@ -1,13 +1,13 @@
--- Laws of a call on an image: 14, a refusal, and success; and going through a row of refusals one by one. Assumes nothing.
+-- Laws of a call on an image: 14, a refusal, and success. Assumes nothing.
 use mathlib.Core.Path.{_≡_, refl, sym, ap, ap₂, _∙_}
 use Prim.Native.Nat.{ℕ}
 use native.Mathlib.Omega.{arith}
-use mathlib.Core.Bool.{Bool, true, false, cond, _&&_, _||_}
+use mathlib.Core.Bool.{Bool, true, false, cond, _&&_}
 use mathlib.Core.List.{List, _++_}
 use lib.Dec.{eqb}
 use borrow.Author.Tests.{eq-eqb, ne-eqb}
 use lib.ListN.{drop}
-use Rattle.forms.specs.Proof.{Fields, shapeOf, proofLen, encode as proofBytes}
+use Rattle.validity.specs.Proof.{Fields, shapeOf, proofLen, encode as proofBytes}
 use Rattle.image.specs.State.{State, encode}
 use Rattle.image.specs.Sound.{sound}
 use Rattle.host.specs.declared.answer.Figures.{Figures}
@@ -107,17 +107,3 @@ pub writes-done : (s : List ℕ) (number value : ℕ) (next : State) (fields : F
 writes-done s number value next fields output len image after e none same stored wrote =
     let shown = ends-done s number value next len image e none same stored in
     (shown .0, (shown .1, wrote ∙ output-done _ fields output (sym (ap (λ (f : Figures). f .number) (shown .0)))))
-
--- a row whose test does not hold is passed over; one whose test holds gives its number
-pub passed : {x : ℕ} (test : Bool) (row others : ℕ) → x ≡ cond test row others → test ≡ false → x ≡ others
-passed test row others e left = e ∙ ap (λ (b : Bool). cond b row others) left
-
-pub given : {x : ℕ} (test : Bool) (row others : ℕ) → x ≡ cond test row others → test ≡ true → x ≡ row
-given test row others e taken = e ∙ ap (λ (b : Bool). cond b row others) taken
-
--- a test of two parts, taken one after the other
-pub or-first : (a b : Bool) → a ≡ true → a ≡ (a || b)
-or-first a b e = e ∙ sym (ap (λ (x : Bool). x || b) e)
-
-pub or-second : (a b : Bool) → a ≡ false → b ≡ (a || b)
-or-second a b e = sym (ap (λ (x : Bool). x || b) e)

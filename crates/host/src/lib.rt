@@ -1,6 +1,5 @@
 // The host: keeps the log image. Document 01, "The host".
 pub mod answer;
-mod boundary;
 pub mod confirm;
 mod counter;
 pub mod last;

@@ -8,8 +8,8 @@ use crate::part::between;
 use crate::part::find;
 use crate::part::least;
 use forms::bytes::byte_at;
-use forms::proof::Proof;
 use host::answer::Figures;
+use validity::proof::Proof;
 
 // What every byte of the output is before a call.
 const UNTOUCHED: u8 = 0xA5;

@@ -1,56 +1,36 @@
 -- `console::grammar::named_one` meets its contract: the names are tried in the table's order. Assumes nothing.
-use mathlib.Core.Path.{_≡_, sym, _∙_}
-use mathlib.Core.Bool.{true, false}
+use mathlib.Core.Path.{_≡_, refl, sym, _∙_}
 use Prim.Native.Nat.{ℕ}
 use borrow.Author.Needs.{needs}
 use borrow.Author.Tests.{le-leb, lt-leb}
-use lib.Dec.{leb}
-use lib.ListN.{take}
-use Rattle.forms.specs.Bytes.{same}
-use Rattle.console.specs.Grammar.{startName, tickName, readName}
+use lib.ListN.{take, drop}
+use Rattle.forms.specs.Checks.{firstOf}
+use Rattle.forms.specs.ChecksLaws.{passed, given}
+use Rattle.console.specs.Grammar.{Command, oneRows}
 use Rattle.console.proofs.grammar.named_one.Statement.{statement}
 use Rattle.console.proofs.grammar.named_one.Tie as tie
 
-start : tie.Need-returns
-start c =
-    let a = c .before .before .before .before .args in
-    let is : same (take {A = ℕ} (a .end) (a .line .now)) startName ≡ true = sym (c .before .is-name .ensures) ∙ c .if1 .taken in
-    simp is
+-- what the rows after the first k give
+abbrev rest : ℕ → tie.Start → Command
+rest k c = firstOf (drop k (oneRows (take (c .args .end) (c .args .line .now)) (c .args .a))) Command.Other
 
-tick : tie.Need-returns-2
-tick c =
-    let a = c .before .before .before .before .before .before .before .before .args in
-    let not-start : same (take {A = ℕ} (a .end) (a .line .now)) startName ≡ false = sym (c .before .before .before .before .before .is-name .ensures) ∙ c .before .before .before .before .if1 .left in
-    let is : same (take {A = ℕ} (a .end) (a .line .now)) tickName ≡ true = sym (c .before .before .is-name2 .ensures) ∙ c .before .if2 .taken in
-    let small : leb (a .a) 255 ≡ true = le-leb _ _ (c .if3 .taken) in
-    simp (not-start, is, small)
+abbrev start-1 : tie.Else1 → tie.Start
+start-1 c = c .before .before .before .before
 
-no-byte : tie.Need-returns-3
-no-byte c =
-    let a = c .before .before .before .before .before .before .before .before .args in
-    let not-start : same (take {A = ℕ} (a .end) (a .line .now)) startName ≡ false = sym (c .before .before .before .before .before .is-name .ensures) ∙ c .before .before .before .before .if1 .left in
-    let is : same (take {A = ℕ} (a .end) (a .line .now)) tickName ≡ true = sym (c .before .before .is-name2 .ensures) ∙ c .before .if2 .taken in
-    let over : leb (a .a) 255 ≡ false = lt-leb _ _ (c .if3 .left) in
-    simp (not-start, is, over)
+rest-1 : (c : tie.Else1) → rest 0 (start-1 c) ≡ rest 1 (start-1 c)
+rest-1 c = passed _ _ _ refl (sym (c .before .is-name .ensures) ∙ c .if1 .left)
 
-read : tie.Need-returns-4
-read c =
-    let a = c .before .before .before .before .before .before .before .before .before .before .args in
-    let not-start : same (take {A = ℕ} (a .end) (a .line .now)) startName ≡ false = sym (c .before .before .before .before .before .before .before .is-name .ensures) ∙ c .before .before .before .before .before .before .if1 .left in
-    let not-tick : same (take {A = ℕ} (a .end) (a .line .now)) tickName ≡ false = sym (c .before .before .before .before .is-name2 .ensures) ∙ c .before .before .before .if2 .left in
-    let is : same (take {A = ℕ} (a .end) (a .line .now)) readName ≡ true = sym (c .before .is-name3 .ensures) ∙ c .if4 .taken in
-    simp (not-start, not-tick, is)
-
-other : tie.Need-returns-5
-other c =
-    let a = c .before .before .before .before .before .before .before .before .before .before .args in
-    let not-start : same (take {A = ℕ} (a .end) (a .line .now)) startName ≡ false = sym (c .before .before .before .before .before .before .before .is-name .ensures) ∙ c .before .before .before .before .before .before .if1 .left in
-    let not-tick : same (take {A = ℕ} (a .end) (a .line .now)) tickName ≡ false = sym (c .before .before .before .before .is-name2 .ensures) ∙ c .before .before .before .if2 .left in
-    let not-read : same (take {A = ℕ} (a .end) (a .line .now)) readName ≡ false = sym (c .before .is-name3 .ensures) ∙ c .if4 .left in
-    simp (not-start, not-tick, not-read)
+rest-2 : (c : tie.Else2) → let held = c .before .before .before in rest 0 (start-1 held) ≡ rest 2 (start-1 held)
+rest-2 c = passed _ _ _ (rest-1 (c .before .before .before)) (sym (c .before .is-name2 .ensures) ∙ c .if2 .left)
 
 pub named-one-spec : {M : Type 1} → statement M
 named-one-spec =
     tie.close
-    (tie.spec (λ c. search needs) (λ c κs. search needs) start (λ c. search needs) (λ c κs. search needs) (λ c. search needs) tick no-byte
-    (λ c. search needs) (λ c κs. search needs) read other)
+    (tie.spec (λ c. search needs) (λ c κs. search needs)
+    (λ c. given _ _ _ refl (sym (c .before .is-name .ensures) ∙ c .if1 .taken))
+    (λ c. search needs) (λ c κs. search needs) (λ c. search needs)
+    (λ c. given _ _ _ refl (le-leb _ _ (c .if3 .taken)) ∙ given _ _ _ (rest-1 (c .before .before .before .before)) (sym (c .before .before .is-name2 .ensures) ∙ c .before .if2 .taken))
+    (λ c. sym (passed _ _ _ refl (lt-leb _ _ (c .if3 .left))) ∙ given _ _ _ (rest-1 (c .before .before .before .before)) (sym (c .before .before .is-name2 .ensures) ∙ c .before .if2 .taken))
+    (λ c. search needs) (λ c κs. search needs)
+    (λ c. given _ _ _ (rest-2 (c .before .before .before)) (sym (c .before .is-name3 .ensures) ∙ c .if4 .taken))
+    (λ c. sym (passed _ _ _ (rest-2 (c .before .before .before)) (sym (c .before .is-name3 .ensures) ∙ c .if4 .left))))

@@ -4,8 +4,8 @@ use Prim.Native.Nat.{ℕ, _+_, _-_, _*_, _/_}
 use native.Mathlib.Omega.{arith}
 use borrow.Author.Needs.{needs}
 use Rattle.forms.specs.Limits.{entryLen}
-use Rattle.forms.specs.Proof.{logOffset}
-use Rattle.forms.specs.declared.proof.Proof.{Proof}
+use Rattle.validity.specs.Proof.{logOffset}
+use Rattle.validity.specs.declared.proof.Proof.{Proof}
 use Rattle.desk.specs.Desk.{verdictsBefore}
 use Rattle.console.specs.StepLaws.{verdictsFor}
 use Rattle.console.proofs.judge.verdict_count.Statement.{statement}

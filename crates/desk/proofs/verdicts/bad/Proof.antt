@@ -1,14 +1,12 @@
 -- `desk::verdicts::bad` meets its contract. Assumes nothing.
-use mathlib.Core.Path.{_≡_, sym, ap, ap₂, _∙_}
+use mathlib.Core.Path.{_≡_, sym, ap, _∙_}
 use mathlib.Core.Bool.{Bool, not, _||_}
-use Prim.Native.Nat.{ℕ, _+_, _*_, _≤_}
+use Prim.Native.Nat.{ℕ, _+_, _*_}
 use native.Mathlib.Omega.{arith}
 use borrow.Author.Needs.{needs}
 use borrow.Author.Tests.{eq-eqb, ne-eqb}
-use lib.Dec.{eqb, lit≤}
 use lib.ListN.{length}
-use Rattle.forms.specs.declared.proof.Kind.{Kind}
-use Rattle.desk.specs.Desk.{verdictsBefore, verdictCount, zeroOrOne, badVerdicts}
+use Rattle.desk.specs.Desk.{verdictCount, zeroOrOne, badVerdicts}
 use Rattle.desk.specs.VerdictsLaws.{before-bound}
 use Rattle.desk.proofs.verdicts.bad.Statement.{statement}
 use Rattle.desk.proofs.verdicts.bad.Tie as tie

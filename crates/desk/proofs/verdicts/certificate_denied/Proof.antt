@@ -3,7 +3,7 @@ use mathlib.Core.Path.{sym, ap, _∙_}
 use Prim.Native.Nat.{ℕ}
 use lib.Dec.{eqb}
 use borrow.Author.Needs.{needs}
-use Rattle.forms.specs.declared.proof.Kind.{Kind}
+use Rattle.validity.specs.declared.proof.Kind.{Kind}
 use Rattle.desk.specs.Desk.{certificateDenied}
 use Rattle.desk.proofs.verdicts.certificate_denied.Statement.{statement}
 use Rattle.desk.proofs.verdicts.certificate_denied.Tie as tie

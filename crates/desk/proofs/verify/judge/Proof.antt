@@ -1,7 +1,7 @@
 -- `desk::verify::judge` meets its contract: at each return the rows before were passed over, and this one gives the answer. `rest-k` says
 -- what is left of the table once k rows have been passed over, each from the one before. Assumes nothing.
 use mathlib.Core.Path.{_≡_, refl, sym, ap, ap₂, _∙_}
-use mathlib.Core.Bool.{Bool, true, false, not, cond}
+use mathlib.Core.Bool.{true, false, not}
 use Prim.Native.Nat.{ℕ, _≤_}
 use native.Mathlib.Omega.{arith}
 use borrow.Author.Needs.{needs}
@@ -10,11 +10,12 @@ use lib.Dec.{eqb}
 use lib.ListN.{drop, length}
 use Rattle.forms.specs.Chain.{valueAfter}
 use Rattle.forms.specs.Checks.{firstOf}
+use Rattle.forms.specs.ChecksLaws.{passed, given}
 use Rattle.forms.specs.Entry.{entriesAt}
 use Rattle.forms.specs.Limits.{maxEntries}
-use Rattle.forms.specs.Proof.{logOffset}
-use Rattle.forms.specs.ProofLaws.{count-bound}
 use Rattle.forms.specs.declared.confirmation.Confirmation.{Confirmation}
+use Rattle.validity.specs.Proof.{logOffset}
+use Rattle.validity.specs.ProofLaws.{count-bound}
 use Rattle.desk.specs.Answer.{Answer}
 use Rattle.desk.specs.Lowest.{lowest}
 use Rattle.desk.specs.Desk.{isNo, verdictsBefore, verdictCount, badConfirmation, moduleDenied, wrongReading, ownerDenied, breaksChain, laterChecks, accepted, judged, confirmation}
@@ -42,12 +43,6 @@ unfolding judged
 rest-0 c = refl
 
 -- ---- row by row
-
-passed : {x : Answer} (test : Bool) (row others : Answer) → x ≡ cond test row others → test ≡ false → x ≡ others
-passed test row others e left = e ∙ ap (λ (b : Bool). cond b row others) left
-
-given : {x : Answer} (test : Bool) (row others : Answer) → x ≡ cond test row others → test ≡ true → row ≡ x
-given test row others e taken = sym (e ∙ ap (λ (b : Bool). cond b row others) taken)
 
 -- 6
 verdicts : tie.Need-returns

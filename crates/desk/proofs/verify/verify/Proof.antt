@@ -2,10 +2,10 @@
 use mathlib.Core.Path.{_≡_, sym, ap, ap₂, _∙_}
 use mathlib.Core.Bool.{Bool, cond}
 use borrow.Author.Needs.{needs}
-use Rattle.forms.specs.Proof.{parsed}
-use Rattle.forms.specs.ProofLaws.{parsed-counted, parsed-length}
-use Rattle.forms.specs.declared.proof.Parsed.{Parsed}
-use Rattle.forms.specs.declared.proof.Proof.{Proof}
+use Rattle.validity.specs.Proof.{parsed}
+use Rattle.validity.specs.ProofLaws.{parsed-counted, parsed-length}
+use Rattle.validity.specs.declared.proof.Parsed.{Parsed}
+use Rattle.validity.specs.declared.proof.Proof.{Proof}
 use Rattle.desk.specs.Answer.{Answer}
 use Rattle.desk.specs.Desk.{judged, verified}
 use Rattle.desk.specs.DeskLaws.{answerOf, verified-parsed}

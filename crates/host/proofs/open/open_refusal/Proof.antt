@@ -1,7 +1,7 @@
 -- `host::open::open_refusal` meets its contract, row by row. Assumes nothing.
 use mathlib.Core.Path.{_≡_, refl, sym, ap, ap₂, _∙_}
-use mathlib.Core.Bool.{Bool, not, _||_}
-use Prim.Native.Nat.{ℕ, _-_, _≤_}
+use mathlib.Core.Bool.{not, _||_}
+use Prim.Native.Nat.{ℕ, _-_}
 use native.Mathlib.Omega.{arith}
 use borrow.Author.Needs.{needs}
 use borrow.Author.Tests.{eq-eqb, ne-eqb, lt-ltb, le-ltb}
@@ -10,11 +10,11 @@ use lib.ListN.{drop, length}
 use Rattle.forms.specs.Checks.{firstOf}
 use Rattle.forms.specs.Limits.{maxCounters}
 use Rattle.forms.specs.declared.terms.GlobalClock.{GlobalClock}
+use Rattle.forms.specs.ChecksLaws.{passed, given}
 use Rattle.image.specs.State.{State, decode}
 use Rattle.host.specs.DecodeLaws.{count-counters, count-entries}
 use Rattle.host.specs.Host.{openRows}
 use Rattle.host.specs.IndexLaws.{bytes-sound}
-use Rattle.host.specs.SettledLaws.{passed, given}
 use Rattle.host.proofs.open.open_refusal.Statement.{statement}
 use Rattle.host.proofs.open.open_refusal.Tie as tie
 
@@ -92,18 +92,18 @@ pub open-refusal-spec : {M : Type 1} → statement M
 open-refusal-spec =
     tie.close
     (tie.spec
-    (λ c. sym (given _ 15 _ refl (ap not (ne-eqb _ _ (c .if1 .taken)))))
+    (λ c. given _ 15 _ refl (ap not (ne-eqb _ _ (c .if1 .taken))))
     (λ c κs. search needs)
-    (λ c. sym (given _ 16 _ (rest-1 (c .before .before)) (sym (c .before .bad-confirmation .ensures) ∙ c .if2 .taken)))
+    (λ c. given _ 16 _ (rest-1 (c .before .before)) (sym (c .before .bad-confirmation .ensures) ∙ c .if2 .taken))
     (λ c κs. search needs)
-    (λ c. sym (given _ 18 _ (rest-2 (c .before .before)) (sym (c .before .is-held .ensures) ∙ c .if3 .taken)))
+    (λ c. given _ 18 _ (rest-2 (c .before .before)) (sym (c .before .is-held .ensures) ∙ c .if3 .taken))
     (λ c κs. search needs)
-    (λ c. sym (given _ 19 _ (rest-3 (c .before .before)) (counters (c .before) ∙ eq-eqb _ _ (c .if4 .taken))))
+    (λ c. given _ 19 _ (rest-3 (c .before .before)) (counters (c .before) ∙ eq-eqb _ _ (c .if4 .taken)))
     (λ c κs. search needs)
     (λ c κs. search needs)
     fewer
     (λ c. let entries = c .before .before .before in
-    sym (given _ 20 _ (rest-4 (entries .before .before)) (ap (ltb (start-4 (entries .before .before) .args .confirmation .reading .0)) (early entries) ∙ lt-ltb _ _ (c .if5 .taken))))
+    given _ 20 _ (rest-4 (entries .before .before)) (ap (ltb (start-4 (entries .before .before) .args .confirmation .reading .0)) (early entries) ∙ lt-ltb _ _ (c .if5 .taken)))
     (λ c κs. search needs)
-    (λ c. sym (given _ 21 _ (rest-5 (c .before .before)) (late (c .before) ∙ c .if6 .taken)))
+    (λ c. given _ 21 _ (rest-5 (c .before .before)) (late (c .before) ∙ c .if6 .taken))
     (λ c. sym (passed _ 21 _ (rest-5 (c .before .before)) (late (c .before) ∙ c .if6 .left))))

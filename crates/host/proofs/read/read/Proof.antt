@@ -1,18 +1,17 @@
 -- `host::read::read` meets its contract, row by row. Assumes nothing.
 use mathlib.Core.Path.{_≡_, refl, sym, ap, _∙_}
-use mathlib.Core.Bool.{Bool, true, false, not}
-use mathlib.Core.List.{List}
+use mathlib.Core.Bool.{true, not}
 use Prim.Native.Nat.{ℕ}
 use native.Mathlib.Omega.{arith}
 use borrow.Author.Needs.{needs}
 use borrow.Author.Tests.{eq-eqb, ne-eqb, not-true, not-false}
 use lib.ListN.{drop}
 use Rattle.forms.specs.Checks.{firstOf}
+use Rattle.forms.specs.ChecksLaws.{passed, given}
 use Rattle.image.specs.State.{State, decode}
 use Rattle.image.specs.Sound.{sound, holds}
-use Rattle.host.specs.declared.answer.Figures.{Figures}
 use Rattle.host.specs.Host.{answered, readRows, readRefusal, currentOf}
-use Rattle.host.specs.SettledLaws.{answered-unsound, answered-refused, answered-done, passed, given}
+use Rattle.host.specs.SettledLaws.{answered-unsound, answered-refused, answered-done}
 use Rattle.host.proofs.read.read.Statement.{statement}
 use Rattle.host.proofs.read.read.Tie as tie
 
@@ -43,7 +42,7 @@ is-sound c = sym (c .before .sound .ensures) ∙ not-false _ (c .if1 .left)
 zero : tie.Need-returns-2
 zero c =
     let passed-1 = c .before .before in
-    refused (start (passed-1 .before)) 16 (is-sound passed-1) (given _ 16 _ refl (eq-eqb _ _ (c .if2 .taken))) (λ e. omega arith)
+    refused (start (passed-1 .before)) 16 (is-sound passed-1) (sym (given _ 16 _ refl (eq-eqb _ _ (c .if2 .taken)))) (λ e. omega arith)
 
 -- what the rows after the first k give
 abbrev rest : ℕ → tie.Start → ℕ
@@ -58,7 +57,7 @@ held-is c = ap not (sym (c .is-held .ensures))
 unheld : tie.Need-returns-3
 unheld c =
     let passed-1 = c .before .before .before .before in
-    refused (start (passed-1 .before)) 17 (is-sound passed-1) (given _ 17 _ (rest-1 (c .before .before)) (held-is (c .before) ∙ c .if3 .taken)) (λ e. omega arith)
+    refused (start (passed-1 .before)) 17 (is-sound passed-1) (sym (given _ 17 _ (rest-1 (c .before .before)) (held-is (c .before) ∙ c .if3 .taken))) (λ e. omega arith)
 
 done : tie.Need-returns-4
 done c =

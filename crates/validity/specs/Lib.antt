@@ -1,0 +1,3 @@
+pub mod Proof
+pub mod ProofLaws
+pub mod RoundTrip

@@ -1,0 +1,16 @@
+// The desk for the program at the dock.
+use desk::answer::Figures;
+use desk::verify::verify;
+use forms::terms::CounterId;
+ghost use mathlib.Core.Path.{_≡_};
+ghost use Rattle.forms.specs.Terms.{counterId};
+ghost use Rattle.desk.specs.Answer.{figures};
+ghost use Rattle.desk.specs.Desk.{verified};
+
+// Document 01's four figures, with no buffer written.
+#[no_mangle]
+pub extern "C" fn vmc_desk_verify(proof: &[u8], verdicts: &[u8], id: u32, nonce: &[u8]) -> Figures
+    ensures { λ r. ⌜ r ≡ figures (verified (now (proof .entry)) (now (verdicts .entry)) (counterId id) (now (nonce .entry))) ⌝ }
+{
+    verify(proof, verdicts, CounterId(id), nonce).figures()
+}
