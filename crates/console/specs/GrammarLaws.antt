@@ -1,5 +1,5 @@
 -- The words of a line, one after the other, and its name compared byte by byte. Assumes nothing.
-use Prim.Native.Nat.{ℕ, zero, suc, _+_, _-_, _≤_, _<_}
+use Prim.Native.Nat.{ℕ, suc, _+_, _-_, _≤_, _<_}
 use mathlib.Core.Path.{_≡_, refl, sym, ap, ap₂, _∙_}
 use mathlib.Core.Bool.{Bool, true, false, cond, _&&_}
 use mathlib.Core.List.{List, [], _∷_}
@@ -7,41 +7,14 @@ use native.Mathlib.Omega.{arith}
 use native.Mathlib.Numerals.{add-one}
 use native.Mathlib.Nat.{add-assoc}
 use lib.Dec.{eqb, ltb}
-use lib.ListN.{length, getD, take, drop, length-take, length-drop}
+use lib.ListN.{length, getD, take, drop, length-take, length-drop, drop-of-length-le}
 use lib.Seq.{drop-cons, drop-drop, getD-take}
-use borrow.Author.Tests.{eq-eqb, ne-eqb, ltb-true, ltb-false, lt-ltb, le-ltb}
+use borrow.Author.Tests.{ltb-true, ltb-false, lt-ltb, le-ltb}
 use Rattle.forms.specs.Bytes.{same}
 use Rattle.forms.specs.BytesLaws.{same-equal}
+use Rattle.text.specs.Text.{before, firstPlace}
 use Rattle.console.specs.Grammar.{Arguments, space, onFirst, words, oneOf, twoOf, thirdTo, argumentsOf, named, byWords, commandOf}
 use Rattle.console.specs.Numeral.{figureOf}
-
--- ---- spaces
-
--- how many bytes stand before the first space; all where there is none
-unfoldable pub firstSpace : List ℕ → ℕ
-firstSpace [] = 0
-firstSpace (b ∷ s) = cond (eqb b space) 0 (suc (firstSpace s))
-
-pub space-here : (s : List ℕ) (i : ℕ) → i < length s → getD s i 0 ≡ space → firstSpace (drop i s) ≡ 0
-unfolding firstSpace
-space-here s i within e =
-    ap firstSpace (drop-cons s i 0 within) ∙ ap (λ (b : Bool). cond b 0 (suc (firstSpace (drop (suc i) s)))) (eq-eqb (getD s i 0) space e)
-
-pub space-later : (s : List ℕ) (i : ℕ) → i < length s → (getD s i 0 ≡ space → ⊥) → firstSpace (drop i s) ≡ suc (firstSpace (drop (i + 1) s))
-unfolding firstSpace
-space-later s i within e =
-    ap firstSpace (drop-cons s i 0 within) ∙ ap (λ (b : Bool). cond b 0 (suc (firstSpace (drop (suc i) s)))) (ne-eqb (getD s i 0) space e)
-    ∙ ap (λ (k : ℕ). suc (firstSpace (drop k s))) (sym (add-one i))
-
-drop-past : (s : List ℕ) (i : ℕ) → length s ≤ i → drop i s ≡ []
-drop-past [] zero past = refl
-drop-past [] (suc i) past = refl
-drop-past (b ∷ s) zero past = absurd (omega arith)
-drop-past (b ∷ s) (suc i) past = drop-past s i (omega arith)
-
-pub space-none : (s : List ℕ) (i : ℕ) → length s ≤ i → firstSpace (drop i s) ≡ 0
-unfolding firstSpace
-space-none s i past = ap firstSpace (drop-past s i past)
 
 -- ---- words
 
@@ -82,16 +55,16 @@ cut-by true b s k cut = ap (λ (ws : List (List ℕ)). [] ∷ ws) (sym (rest-mor
 cut-by false b s k cut = ap (onFirst b) cut ∙ ap (λ (ws : List (List ℕ)). (b ∷ take k s) ∷ ws) (rest-from (b ∷ s) 1 k (omega arith) ∙ ap (restOf (b ∷ s)) (omega arith))
 
 -- the first word of a line, and the others
-words-cut : (s : List ℕ) → words s ≡ take (firstSpace s) s ∷ restOf s (firstSpace s)
-unfolding words firstSpace
+words-cut : (s : List ℕ) → words s ≡ take (before space s) s ∷ restOf s (before space s)
+unfolding words before
 words-cut [] = sym (ap (λ (ws : List (List ℕ)). [] ∷ ws) (rest-none [] 0 refl))
-words-cut (b ∷ s) = cut-by (eqb b space) b s (firstSpace s) (words-cut s)
+words-cut (b ∷ s) = cut-by (eqb b space) b s (before space s) (words-cut s)
 
 -- the words from a place on
-pub words-from : (s : List ℕ) (from to : ℕ) → from ≤ length s → to ≡ from + firstSpace (drop from s)
+pub words-from : (s : List ℕ) (from to : ℕ) → from ≤ length s → to ≡ firstPlace s from space
     → words (drop from s) ≡ take (to - from) (drop from s) ∷ restOf s to
 words-from s from to within e =
-    let k : ℕ = firstSpace (drop from s) in
+    let k : ℕ = before space (drop from s) in
     let n : k ≡ to - from = omega arith in
     words-cut (drop from s)
     ∙ ap₂ _∷_ (ap (λ (m : ℕ). take m (drop from s)) n) (rest-from s from k within ∙ ap (restOf s) (sym e))
@@ -110,7 +83,7 @@ none-behind line end whole = ap argumentsOf (rest-none line end whole)
 -- the end of the word behind the one that ends at a place, where there is one
 pub record Behind (line : List ℕ) (end to : ℕ) : Type 0 where
   pub more : end < length line
-  pub ends : to ≡ end + 1 + firstSpace (drop (end + 1) line)
+  pub ends : to ≡ firstPlace line (end + 1) space
 
 behind : {line : List ℕ} {end to : ℕ} → Behind line end to → restOf line end ≡ wordAt line (end + 1) to ∷ restOf line to
 behind {line} {end} {to} b = rest-more line end (b .more) ∙ words-from line (end + 1) to (omega (arith, b .more)) (b .ends)
@@ -178,10 +151,10 @@ module _ (line name : List ℕ) (end : ℕ) (within : end ≤ length line) where
 
   pub name-past : (i : ℕ) → end ≤ i → end ≡ length name → same (drop i (take end line)) (drop i name) ≡ true
   unfolding same
-  name-past i past long = ap₂ same (drop-past (take end line) i (omega (arith, length-take end line))) (drop-past name i (omega arith))
+  name-past i past long = ap₂ same (drop-of-length-le (take end line) {i = i} (omega (arith, length-take end line))) (drop-of-length-le name {i = i} (omega arith))
 
 -- the command of a line, by where its name ends
-pub command-named : (line : List ℕ) (end : ℕ) → end ≡ firstSpace line → commandOf line ≡ named (take end line) (argumentsOf (restOf line end))
+pub command-named : (line : List ℕ) (end : ℕ) → end ≡ before space line → commandOf line ≡ named (take end line) (argumentsOf (restOf line end))
 unfolding commandOf
 command-named line end e =
     ap byWords (words-cut line) ∙ ap (λ (k : ℕ). named (take k line) (argumentsOf (restOf line k))) (sym e)

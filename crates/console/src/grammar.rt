@@ -4,12 +4,13 @@ use crate::numeral::read_figure;
 use forms::confirmation::Confirmation;
 use forms::terms::CounterId;
 use forms::terms::GlobalClock;
+use text::part::find;
 ghost use mathlib.Core.Path.{_≡_};
-ghost use Prim.Native.Nat.{_+_, _≤_};
-ghost use lib.ListN.{length, take, drop};
+ghost use Prim.Native.Nat.{_≤_};
+ghost use lib.ListN.{length, take};
 ghost use Rattle.forms.specs.Bytes.{same};
 ghost use Rattle.console.specs.Grammar.{argumentsOf, commandOf, namedOne, namedThree, namedTwo, oneOf, thirdTo, twoOf};
-ghost use Rattle.console.specs.GrammarLaws.{firstSpace, restOf};
+ghost use Rattle.console.specs.GrammarLaws.{restOf};
 
 // The figures behind a line's name.
 pub enum Arguments {
@@ -36,22 +37,6 @@ pub enum Command {
 
 // The largest byte that a line's nonce has.
 const MAX_BYTE: u32 = 255;
-
-// The first place of a space from a place on, or the line's end.
-fn word_end(line: &[u8], from: usize) -> usize
-    requires { ⌜ from ≤ length (now line) ⌝ }
-    ensures { λ r. ⌜ r ≡ from + firstSpace (drop from (now (line .entry))) ⌝ }
-    ensures { λ r. ⌜ (from ≤ r) × (r ≤ length (now (line .entry))) ⌝ }
-{
-    let mut i = from;
-    while i < line.len() {
-        if line[i] == b' ' {
-            return i;
-        }
-        i += 1;
-    }
-    i
-}
 
 fn one_of(a: Figure) -> Arguments
     ensures { λ r. ⌜ r ≡ oneOf a ⌝ }
@@ -97,17 +82,17 @@ fn read_arguments(line: &[u8], end: usize) -> Arguments
     if end == line.len() {
         return Arguments::Bad;
     }
-    let first_end = word_end(line, end + 1);
+    let first_end = find(line, end + 1, b' ');
     let first = read_figure(line, end + 1, first_end);
     if first_end == line.len() {
         return one_of(first);
     }
-    let second_end = word_end(line, first_end + 1);
+    let second_end = find(line, first_end + 1, b' ');
     let second = read_figure(line, first_end + 1, second_end);
     if second_end == line.len() {
         return two_of(first, second);
     }
-    let third_end = word_end(line, second_end + 1);
+    let third_end = find(line, second_end + 1, b' ');
     let third = read_figure(line, second_end + 1, third_end);
     if third_end == line.len() {
         return third_to(two_of(first, second), third);
@@ -196,7 +181,7 @@ fn named_three(line: &[u8], end: usize, a: u32, b: u32, c: u32) -> Command
 pub fn read_command(line: &[u8]) -> Command
     ensures { λ r. ⌜ r ≡ commandOf (now (line .entry)) ⌝ }
 {
-    let end = word_end(line, 0);
+    let end = find(line, 0, b' ');
     let given = read_arguments(line, end);
     match given {
         Arguments::One(a) => named_one(line, end, a),

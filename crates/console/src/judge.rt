@@ -1,5 +1,4 @@
 // prove and last as lines ask for them: the host writes the proof, and the desk judges it with every verdict yes.
-use crate::part::front;
 use desk::verify::verify;
 use forms::entry::Entry;
 use forms::image::Image;
@@ -11,6 +10,7 @@ use host::answer::Figures;
 use host::last::last;
 use host::prove::prove;
 use image::header::entry_count;
+use text::part::front;
 use validity::proof::Kind;
 use validity::proof::Proof;
 ghost use mathlib.Core.Path.{_≡_};

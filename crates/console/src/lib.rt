@@ -3,7 +3,6 @@
 pub mod grammar;
 mod judge;
 mod numeral;
-mod part;
 pub mod run;
 pub mod session;
 pub mod step;

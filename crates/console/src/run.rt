@@ -1,6 +1,5 @@
 // The program's input and output: standard input is read in parts, and the answers of each part are written before the next is read. No
 // contract can say what is read and written; what is printed for a part is `feed`'s.
-use crate::part::front;
 use crate::session::Line;
 use crate::session::MAX_ANSWER;
 use crate::session::feed;
@@ -8,6 +7,7 @@ use crate::session::finish;
 use forms::image::Image;
 use libc::STDIN_FILENO;
 use libc::STDOUT_FILENO;
+use text::part::front;
 
 // The bytes that are read at a time, and the text that they may need.
 const PART: usize = 4096;

@@ -1,9 +1,9 @@
 // An input that comes in parts of any cut: each whole line is answered, and what stands of the next one is kept for the next part.
 use crate::grammar::Command;
 use crate::grammar::read_command;
-use crate::part::front;
 use crate::step::put_answer;
 use crate::step::step;
+use text::part::front;
 ghost use mathlib.Core.Path.{_≡_};
 ghost use Prim.Native.Nat.{_+_, _≤_};
 ghost use lib.ListN.{length};

@@ -2,13 +2,13 @@
 use crate::cards;
 use crate::cards::Slip;
 use crate::module;
-use crate::part::front;
 use crate::plan::id_of;
 use crate::tally;
 use desk::verify::verify;
 use forms::entry::Entry;
 use forms::nonce::Nonce;
 use forms::terms::GlobalClock;
+use text::part::front;
 use validity::proof::Kind;
 use validity::proof::Proof;
 

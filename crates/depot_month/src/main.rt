@@ -4,10 +4,8 @@
 mod cards;
 mod day;
 mod judge;
-mod line;
 mod module;
 mod owner;
-mod part;
 mod plan;
 mod prove;
 mod raise;

@@ -3,7 +3,6 @@ use crate::cards::Slip;
 use crate::judge::Wanted;
 use crate::judge::judged;
 use crate::module;
-use crate::part::front;
 use crate::plan::FIRST_READING;
 use crate::plan::id_of;
 use crate::raise::current;
@@ -14,6 +13,7 @@ use forms::terms::GlobalClock;
 use host::answer::Figures;
 use host::last::last;
 use host::prove::prove;
+use text::part::front;
 use validity::proof::Kind;
 use validity::proof::Proof;
 

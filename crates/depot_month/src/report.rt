@@ -1,11 +1,11 @@
 // What is printed: a line for each day, and the counts of the whole month.
-use crate::line;
 use crate::module;
 use crate::tally;
 use forms::bytes::wide;
 use image::header::counter_count;
 use image::header::entry_count;
 use image::header::proofs_written;
+use text::line;
 
 fn labelled(label: &[u8], number: u32) {
     line::text(label);

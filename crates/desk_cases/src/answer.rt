@@ -1,8 +1,6 @@
 // A case is written as a proof, given to the desk, and its answer printed.
 use crate::case::Case;
 use crate::case::NOT_GIVEN;
-use crate::line;
-use crate::part::front;
 use desk::answer::Figures;
 use forms::bytes::put;
 use forms::certificate::Certificate;
@@ -13,6 +11,8 @@ use forms::nonce::LEN;
 use forms::number::put_u32;
 use forms::terms::CounterId;
 use forms::terms::GlobalClock;
+use text::line;
+use text::part::front;
 use validity::proof::Proof;
 use validity::writing::write;
 use vmc::dock::vmc_desk_verify;
@@ -72,7 +72,7 @@ fn print(label: &[u8], figures: Figures) {
     line::figure(figures.value);
     line::figure(figures.closing);
     line::figure(figures.place);
-    line::text(b"\n");
+    line::end();
 }
 
 // Writes the proof and changes it.

@@ -2,9 +2,7 @@
 // and the longest proofs. The cases are lines of the input; the expected output is calculated from the document and not by this program.
 mod answer;
 mod case;
-mod line;
 mod long;
-mod part;
 mod table;
 
 use libc::STDIN_FILENO;

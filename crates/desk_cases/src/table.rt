@@ -4,53 +4,12 @@ use crate::answer::case;
 use crate::case::Case;
 use crate::case::FIGURES;
 use crate::case::NOT_GIVEN;
-use crate::part::between;
-use crate::part::find;
+use text::figures::put_figures;
+use text::part::between;
+use text::part::find;
 
 // Room for the figures of a log.
 const LOG_ROOM: usize = 64;
-
-const MODULUS: u64 = 4294967296;
-
-fn is_digit(byte: u8) -> bool {
-    if byte < b'0' {
-        return false;
-    }
-    byte <= b'9'
-}
-
-// A decimal number and one more digit, whose byte is 48 and the digit.
-fn with_digit(number: u32, digit: u8) -> u32 {
-    ((number as u64 * 10 + (digit % 16) as u64) % MODULUS) as u32
-}
-
-// Stores a figure as the last of so many, where there is room.
-fn put(figures: &mut [u32], count: usize, figure: u32) {
-    if count == 0 {
-        return;
-    }
-    if count <= figures.len() {
-        figures[count - 1] = figure;
-    }
-}
-
-// Stores the figures of a text, each behind a space, and answers how many there are.
-fn put_figures(text: &[u8], figures: &mut [u32]) -> usize {
-    let mut count: usize = 0;
-    let mut figure: u32 = 0;
-    let mut i: usize = 0;
-    while i < text.len() {
-        if is_digit(text[i]) {
-            figure = with_digit(figure, text[i]);
-            put(figures, count, figure);
-        } else {
-            figure = 0;
-            count += 1;
-        }
-        i += 1;
-    }
-    count
-}
 
 fn front(figures: &[u32], count: usize) -> &[u32] {
     if count < figures.len() {

@@ -1,5 +1,4 @@
 // Content that a desk would refuse is written and read all the same: writing and reading judge the form alone.
-use crate::line;
 use crate::roundtrip::case;
 use crate::sample;
 use forms::certificate::Certificate;
@@ -8,6 +7,7 @@ use forms::entry::Entry;
 use forms::event::Carried;
 use forms::terms::CounterId;
 use forms::terms::GlobalClock;
+use text::line;
 
 const LARGEST: u32 = 4294967295;
 

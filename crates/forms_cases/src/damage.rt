@@ -1,11 +1,11 @@
 // Copies of a valid proof with one entry, damaged or cut, and the number with which reading refuses them.
 use crate::header::Header;
-use crate::line;
-use crate::part;
 use crate::sample;
 use forms::bytes::byte_at;
 use forms::bytes::put;
 use forms::entry::Entry;
+use text::line;
+use text::part::front;
 use validity::proof::parse;
 use validity::proof::parse_number;
 use validity::writing::write;
@@ -22,14 +22,14 @@ fn valid(kind: u32, entries: &[u8], bytes: &mut [u8]) {
         sample::confirmation(),
         sample::certificate(),
         1,
-        part::front(entries, Entry::LEN),
+        front(entries, Entry::LEN),
         bytes,
     );
 }
 
 // Prints the number for the first bytes.
 fn judge(bytes: &[u8], lent: usize) {
-    line::figure(parse_number(parse(part::front(bytes, lent))));
+    line::figure(parse_number(parse(front(bytes, lent))));
 }
 
 fn headed(kind: u32, header: Header, lent: usize, entries: &[u8], bytes: &mut [u8]) {
@@ -38,7 +38,7 @@ fn headed(kind: u32, header: Header, lent: usize, entries: &[u8], bytes: &mut [u
     line::text(b"read");
     header.print();
     line::text(b" lent");
-    line::size(lent);
+    line::number(lent as u64);
     line::text(b":");
     judge(bytes, lent);
     line::end();

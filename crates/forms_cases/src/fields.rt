@@ -1,6 +1,4 @@
 // The fields that a proof's bytes read as, a line each for the confirmation, the clock certificate, the first and the last entry.
-use crate::checksum;
-use crate::line;
 use crate::sample;
 use forms::certificate::Certificate;
 use forms::confirmation::Confirmation;
@@ -8,11 +6,26 @@ use forms::entry::Entry;
 use forms::event::Carried;
 use forms::event::Event;
 use forms::event::ModuleEvent;
+use forms::nonce::Nonce;
+use text::checksum::checksum;
+use text::line;
 use validity::proof::Kind;
 use validity::proof::Parsed;
 use validity::proof::Proof;
 use validity::proof::parse;
 use validity::proof::parse_number;
+
+fn verdict(holds: bool) {
+    if holds {
+        line::text(b" yes");
+    } else {
+        line::text(b" no");
+    }
+}
+
+fn print_nonce(nonce: Nonce) {
+    line::number(checksum(&nonce));
+}
 
 // Prints id, value and reading.
 pub(crate) fn confirmation(s: &[u8]) {
@@ -30,8 +43,8 @@ pub(crate) fn certificate(s: &[u8], at: usize) {
     let other = sample::other(sample::CERTIFICATE_SEED);
     line::text(b"certificate:");
     line::figure(Certificate::reading_at(s, at).0);
-    line::verdict(Certificate::nonce_is(s, at, &nonce));
-    line::verdict(Certificate::nonce_is(s, at, &other));
+    verdict(Certificate::nonce_is(s, at, &nonce));
+    verdict(Certificate::nonce_is(s, at, &other));
     line::end();
 }
 
@@ -53,7 +66,7 @@ fn event(read: ModuleEvent) {
         Event::Read => line::text(b" read"),
     }
     let nonce = read.nonce;
-    checksum::print_nonce(nonce);
+    print_nonce(nonce);
 }
 
 // Prints reading, id, value before and the nonce; the event with its nonce; and whether the nonce is the one written and whether
@@ -69,10 +82,10 @@ fn entry(s: &[u8], at: usize, place: u32) {
     line::figure(read.id.0);
     line::figure(read.before);
     let held = read.nonce;
-    checksum::print_nonce(held);
+    print_nonce(held);
     event(read.event());
-    line::verdict(Entry::nonce_is(s, at, &nonce));
-    line::verdict(Entry::nonce_is(s, at, &other));
+    verdict(Entry::nonce_is(s, at, &nonce));
+    verdict(Entry::nonce_is(s, at, &other));
     line::end();
 }
 

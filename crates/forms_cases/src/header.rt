@@ -1,7 +1,7 @@
 // A proof's header by its fields, to be damaged one field at a time.
-use crate::line;
 use forms::number::put_u16;
 use forms::number::put_u32;
+use text::line;
 
 pub struct Header {
     pub form: u32,

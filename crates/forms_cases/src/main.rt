@@ -1,12 +1,9 @@
 // The forms of document 01, written, read back and refused, one case a line. The expected output is calculated from the document's
 // tables and not by this program.
-mod checksum;
 mod content;
 mod damage;
 mod fields;
 mod header;
-mod line;
-mod part;
 mod refusal;
 mod roundtrip;
 mod sample;

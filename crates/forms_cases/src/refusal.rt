@@ -1,8 +1,8 @@
 // Fields that writing refuses, and the output that it keeps; and outputs that the proof just fits.
-use crate::checksum;
-use crate::line;
-use crate::part;
 use crate::sample;
+use text::checksum::checksum;
+use text::line;
+use text::part::front;
 use validity::writing::write;
 
 const ROOM: usize = sample::OUTPUT_LEN;
@@ -13,16 +13,16 @@ fn heading(kind: u32, count: u32, bytes: usize, room: usize) {
     line::text(b" entries");
     line::figure(count);
     line::text(b" bytes");
-    line::size(bytes);
+    line::number(bytes as u64);
     line::text(b" room");
-    line::size(room);
+    line::number(room as u64);
     line::text(b":");
 }
 
 // Prints number and value, and the output before and after.
 fn written(kind: u32, count: u32, entries: &[u8], out: &mut [u8]) {
     heading(kind, count, entries.len(), out.len());
-    let before = checksum::of(out);
+    let before = checksum(out);
     let answer = write(
         kind,
         sample::confirmation(),
@@ -34,7 +34,7 @@ fn written(kind: u32, count: u32, entries: &[u8], out: &mut [u8]) {
     line::figure(answer.number());
     line::figure(answer.value());
     line::number(before);
-    checksum::print(out);
+    line::number(checksum(out));
     line::end();
 }
 
@@ -49,7 +49,7 @@ fn within(kind: u32, count: u32, entries: &[u8], room: usize, out: &mut [u8]) {
 // So many of the entries' bytes, and an output of so many.
 fn case(kind: u32, count: u32, bytes: usize, room: usize, entries: &[u8]) {
     let mut out = [sample::UNTOUCHED; ROOM];
-    within(kind, count, part::front(entries, bytes), room, &mut out);
+    within(kind, count, front(entries, bytes), room, &mut out);
 }
 
 fn unknown_kind(entries: &[u8]) {

@@ -1,12 +1,12 @@
 // Proofs written into an output with room to spare, and read back.
-use crate::checksum;
 use crate::fields;
-use crate::line;
-use crate::part;
 use crate::sample;
 use forms::certificate::Certificate;
 use forms::confirmation::Confirmation;
 use forms::entry::Entry;
+use text::checksum::checksum;
+use text::line;
+use text::part::front;
 use validity::writing::write;
 
 // Writes the fields, then prints number, value, what the bytes written read as and the whole output; then the fields read back.
@@ -19,7 +19,7 @@ fn written(
     out: &mut [u8],
 ) {
     let answer = write(kind, confirmation, certificate, count, entries, out);
-    let proof = part::front(out, answer.value() as usize);
+    let proof = front(out, answer.value() as usize);
     line::text(b"write kind");
     line::figure(kind);
     line::text(b" entries");
@@ -28,9 +28,9 @@ fn written(
     line::figure(answer.number());
     line::figure(answer.value());
     fields::reading(proof);
-    checksum::print(out);
+    line::number(checksum(out));
     line::end();
-    fields::all(part::front(out, answer.value() as usize));
+    fields::all(front(out, answer.value() as usize));
 }
 
 // Writes the first of the entries given.
@@ -42,7 +42,7 @@ pub(crate) fn case(
     entries: &[u8],
 ) {
     let mut out = [sample::UNTOUCHED; sample::OUTPUT_LEN];
-    let first = part::front(entries, Entry::LEN * (count as usize));
+    let first = front(entries, Entry::LEN * (count as usize));
     written(kind, confirmation, certificate, count, first, &mut out);
 }
 

@@ -2,13 +2,13 @@
 // output where the call has one.
 use crate::call;
 use crate::call::Call;
-use crate::checksum;
-use crate::line;
-use crate::part::between;
-use crate::part::find;
 use crate::part::least;
 use forms::bytes::byte_at;
 use host::answer::Figures;
+use text::checksum::checksum;
+use text::line;
+use text::part::between;
+use text::part::find;
 use validity::proof::Proof;
 
 // What every byte of the output is before a call.
@@ -22,8 +22,8 @@ struct Sums {
 
 fn both(image: &[u8], out: &[u8]) -> Sums {
     Sums {
-        image: checksum::of(image),
-        out: checksum::of(out),
+        image: checksum(image),
+        out: checksum(out),
     }
 }
 
@@ -31,14 +31,24 @@ fn has_output(word: u8) -> bool {
     word == b'p' || word == b'l'
 }
 
+// Prints whether a buffer changed, and its checksum now.
+fn print_sum(before: u64, now: u64) {
+    if before == now {
+        line::text(b" kept");
+    } else {
+        line::text(b" changed");
+    }
+    line::number(now);
+}
+
 fn print_answer(text: &[u8], figures: Figures, before: Sums, now: Sums) {
     line::text(between(text, 0, find(text, 0, b'=')));
     line::text(b"=");
     line::figure(figures.number);
     line::figure(figures.value);
-    checksum::print(before.image, now.image);
+    print_sum(before.image, now.image);
     if has_output(byte_at(text, 0)) {
-        checksum::print(before.out, now.out);
+        print_sum(before.out, now.out);
     }
     line::end();
 }

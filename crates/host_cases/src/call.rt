@@ -1,9 +1,5 @@
 // A line's word and figures, and the host's call that they stand for.
-use crate::figures;
 use crate::many;
-use crate::part::between;
-use crate::part::find;
-use crate::part::front;
 use crate::part::least;
 use forms::bytes::byte_at;
 use forms::confirmation::Confirmation;
@@ -19,6 +15,10 @@ use host::raise::increment;
 use host::raise::tick;
 use host::read::read;
 use host::start::start;
+use text::figures::put_figures;
+use text::part::between;
+use text::part::find;
+use text::part::front;
 
 const FIGURES: usize = 5;
 
@@ -52,7 +52,7 @@ impl Call {
         let space = find(line, 0, b' ');
         let end = find(line, space, b'=');
         let mut given = [0u32; FIGURES];
-        figures::read(between(line, space, end), &mut given);
+        put_figures(between(line, space, end), &mut given);
         Call::new(byte_at(line, 0), given)
     }
 }

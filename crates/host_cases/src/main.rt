@@ -3,9 +3,6 @@
 // document and not by this program.
 mod answer;
 mod call;
-mod checksum;
-mod figures;
-mod line;
 mod many;
 mod part;
 mod table;

@@ -4,13 +4,13 @@
 // bring it back; and `give length`, from which on so many bytes of the image's buffer are lent.
 use crate::answer;
 use crate::call::Call;
-use crate::line;
-use crate::part::between;
-use crate::part::find;
 use forms::bytes::byte_at;
 use forms::bytes::put;
 use forms::image::Image;
 use forms::number::put_u32;
+use text::line;
+use text::part::between;
+use text::part::find;
 
 fn put_byte(image: &mut [u8], at: u32, byte: u32) {
     put(image, at as usize, &[(byte % 256) as u8]);

@@ -12,11 +12,11 @@ use Rattle.console.proofs.grammar.read_command.Tie as tie
 -- the line's command, by its name and the figures that were read
 by-figures : (c : tie.After-read-arguments) (given : Arguments) → c .read-arguments .result ≡ given →
     let a = c .before .before .before .args in
-    named (take {A = ℕ} (c .before .word-end .result) (a .line .now)) given ≡ commandOf (a .line .now)
+    named (take {A = ℕ} (c .before .find .result) (a .line .now)) given ≡ commandOf (a .line .now)
 by-figures c given e =
     let a = c .before .before .before .args in
-    ap (named (take {A = ℕ} (c .before .word-end .result) (a .line .now))) (sym e ∙ c .read-arguments .ensures)
-    ∙ sym (command-named (a .line .now) (c .before .word-end .result) (omega (arith, c .before .word-end .ensures .0)))
+    ap (named (take {A = ℕ} (c .before .find .result) (a .line .now))) (sym e ∙ c .read-arguments .ensures)
+    ∙ sym (command-named (a .line .now) (c .before .find .result) (omega (arith, c .before .find .ensures .0)))
 
 one : tie.Need-returns
 one c = c .named-one .ensures ∙ by-figures (c .before .before .before .before) _ (c .before .before .given .given .1)
