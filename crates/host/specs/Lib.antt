@@ -1,6 +1,5 @@
 pub mod ConfirmLaws
 pub mod ConfirmStores
-pub mod DecodeLaws
 pub mod DoneLaws
 pub mod EachRecordLaws
 pub mod EffectLaws

@@ -10,6 +10,7 @@ use image::header;
 use image::header::clock;
 use image::header::counter_count;
 use image::header::entry_count;
+use image::header::table_full;
 use image::soundness::sound;
 ghost use mathlib.Core.Path.{_≡_};
 ghost use mathlib.Core.Bool.{true};
@@ -34,7 +35,7 @@ fn open_refusal(image: &[u8], confirmation: Confirmation, verdict: u32) -> u32
     if is_held(image, confirmation.id) {
         return 18;
     }
-    if counter_count(image) == Image::MAX_COUNTERS {
+    if table_full(image) {
         return 19;
     }
     let now = clock(image);

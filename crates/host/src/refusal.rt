@@ -1,16 +1,12 @@
 // Tests that several calls share, each a part of a row of document 01's table.
 use forms::confirmation::Confirmation;
-use forms::image::Image;
 use forms::nonce;
 use forms::terms::CounterId;
 use forms::terms::GlobalClock;
 use image::header::clock;
-use image::header::entry_count;
 ghost use mathlib.Core.Path.{_≡_};
 ghost use mathlib.Core.Bool.{_||_, not};
 ghost use lib.Dec.{eqb, ltb};
-ghost use lib.ListN.{length};
-ghost use Rattle.forms.specs.Limits.{maxEntries};
 ghost use Rattle.image.specs.State.{decode};
 ghost use Rattle.host.specs.Host.{badNonce, largest};
 
@@ -40,13 +36,6 @@ pub(crate) fn bad_opening(confirmation: Confirmation, now: GlobalClock) -> bool
     ensures { λ r. ⌜ r ≡ (ltb (now .0) (confirmation .reading .0) || not (eqb (confirmation .value) (confirmation .reading .0))) ⌝ }
 {
     now.0 < confirmation.reading.0 || confirmation.value != confirmation.reading.0
-}
-
-// 24: the log is full.
-pub(crate) fn log_full(image: &[u8]) -> bool
-    ensures { λ r. ⌜ r ≡ eqb (length (decode (now (image .entry)) .log)) maxEntries ⌝ }
-{
-    entry_count(image) == Image::MAX_ENTRIES
 }
 
 // 25: the clock is at its end.

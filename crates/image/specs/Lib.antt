@@ -1,3 +1,4 @@
+pub mod DecodeLaws
 pub mod FitLaws
 pub mod FrameLaws
 pub mod HintLaws

@@ -8,11 +8,10 @@ use borrow.Author.Tests.{eq-eqb, ne-eqb, lt-ltb, le-ltb}
 use lib.Dec.{eqb, ltb}
 use lib.ListN.{drop, length}
 use Rattle.forms.specs.Checks.{firstOf}
-use Rattle.forms.specs.Limits.{maxCounters}
 use Rattle.forms.specs.declared.terms.GlobalClock.{GlobalClock}
 use Rattle.forms.specs.ChecksLaws.{passed, given}
 use Rattle.image.specs.State.{State, decode}
-use Rattle.host.specs.DecodeLaws.{count-counters, count-entries}
+use Rattle.image.specs.DecodeLaws.{count-entries}
 use Rattle.host.specs.Host.{openRows}
 use Rattle.host.specs.IndexLaws.{bytes-sound}
 use Rattle.host.proofs.open.open_refusal.Statement.{statement}
@@ -43,14 +42,11 @@ start-3 c = start-2 (c .before .before)
 rest-3 : (c : tie.Else3) → rest 0 (start-3 c) ≡ rest 3 (start-3 c)
 rest-3 c = passed _ 18 _ (rest-2 (c .before .before)) (sym (c .before .is-held .ensures) ∙ c .if3 .left)
 
-counters : (c : tie.After-counter-count) → eqb (length (state (start-3 (c .before)) .records)) maxCounters ≡ eqb (c .counter-count .result) maxCounters
-counters c = ap (λ (n : ℕ). eqb n maxCounters) (count-counters (start-3 (c .before) .args .image .now) ∙ sym (c .counter-count .ensures))
-
 abbrev start-4 : tie.Else4 → tie.Start
 start-4 c = start-3 (c .before .before)
 
 rest-4 : (c : tie.Else4) → rest 0 (start-4 c) ≡ rest 4 (start-4 c)
-rest-4 c = passed _ 19 _ (rest-3 (c .before .before)) (counters (c .before) ∙ ne-eqb _ _ (c .if4 .left))
+rest-4 c = passed _ 19 _ (rest-3 (c .before .before)) (sym (c .before .table-full .ensures) ∙ c .if4 .left)
 
 -- the reading before the first entry
 early : (c : tie.After-entry-count) →
@@ -98,7 +94,7 @@ open-refusal-spec =
     (λ c κs. search needs)
     (λ c. given _ 18 _ (rest-2 (c .before .before)) (sym (c .before .is-held .ensures) ∙ c .if3 .taken))
     (λ c κs. search needs)
-    (λ c. given _ 19 _ (rest-3 (c .before .before)) (counters (c .before) ∙ eq-eqb _ _ (c .if4 .taken)))
+    (λ c. given _ 19 _ (rest-3 (c .before .before)) (sym (c .before .table-full .ensures) ∙ c .if4 .taken))
     (λ c κs. search needs)
     (λ c κs. search needs)
     fewer
