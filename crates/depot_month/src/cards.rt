@@ -1,4 +1,5 @@
-// What the depot knows of each counter, in a buffer with a card for each: the reading of its opening, what its tablet holds, and a slip.
+// What the depot knows of each counter, on a card for each in the books: the reading of its opening, what its tablet holds, and a slip.
+use crate::module;
 use crate::plan::COUNTERS;
 use forms::number::get_u32;
 use forms::number::put_u32;
@@ -7,7 +8,9 @@ ghost use Prim.Native.Nat.{_≤_};
 
 const CARD: usize = 24;
 
-pub(crate) const ROOM: usize = CARD * (COUNTERS as usize);
+const FIRST: usize = module::END;
+
+pub(crate) const END: usize = FIRST + CARD * (COUNTERS as usize);
 
 const OPENED: usize = 0;
 
@@ -17,18 +20,18 @@ const SLIP: usize = 12;
 
 // Where a counter's card begins: at most where the last one does.
 fn card(place: u32) -> usize
-    ensures { λ r. ⌜ r ≤ 1512 ⌝ }
+    ensures { λ r. ⌜ r ≤ 263660 ⌝ }
 {
-    CARD * ((place % COUNTERS) as usize)
+    FIRST + CARD * ((place % COUNTERS) as usize)
 }
 
 // 0 where the counter is not opened.
-pub(crate) fn opened(cards: &[u8], place: u32) -> GlobalClock {
-    GlobalClock(get_u32(cards, card(place) + OPENED))
+pub(crate) fn opened(books: &[u8], place: u32) -> GlobalClock {
+    GlobalClock(get_u32(books, card(place) + OPENED))
 }
 
-pub(crate) fn put_opened(cards: &mut [u8], place: u32, reading: GlobalClock) {
-    put_u32(cards, card(place) + OPENED, reading.0);
+pub(crate) fn put_opened(books: &mut [u8], place: u32, reading: GlobalClock) {
+    put_u32(books, card(place) + OPENED, reading.0);
 }
 
 // The value that a tablet took along, and the day on which it did.
@@ -38,18 +41,18 @@ pub struct Tablet {
 }
 
 impl Tablet {
-    pub(crate) fn read(cards: &[u8], place: u32) -> Self {
+    pub(crate) fn read(books: &[u8], place: u32) -> Self {
         let at = card(place) + TABLET;
         Tablet {
-            value: get_u32(cards, at),
-            day: get_u32(cards, at + 4),
+            value: get_u32(books, at),
+            day: get_u32(books, at + 4),
         }
     }
 
-    pub(crate) fn write(self, cards: &mut [u8], place: u32) {
+    pub(crate) fn write(self, books: &mut [u8], place: u32) {
         let at = card(place) + TABLET;
-        put_u32(cards, at, self.value);
-        put_u32(cards, at + 4, self.day);
+        put_u32(books, at, self.value);
+        put_u32(books, at + 4, self.day);
     }
 }
 
@@ -69,19 +72,19 @@ impl Slip {
         }
     }
 
-    pub(crate) fn read(cards: &[u8], place: u32) -> Self {
+    pub(crate) fn read(books: &[u8], place: u32) -> Self {
         let at = card(place) + SLIP;
         Slip {
-            value: get_u32(cards, at),
-            reading: GlobalClock(get_u32(cards, at + 4)),
-            day: get_u32(cards, at + 8),
+            value: get_u32(books, at),
+            reading: GlobalClock(get_u32(books, at + 4)),
+            day: get_u32(books, at + 8),
         }
     }
 
-    pub(crate) fn write(self, cards: &mut [u8], place: u32) {
+    pub(crate) fn write(self, books: &mut [u8], place: u32) {
         let at = card(place) + SLIP;
-        put_u32(cards, at, self.value);
-        put_u32(cards, at + 4, self.reading.0);
-        put_u32(cards, at + 8, self.day);
+        put_u32(books, at, self.value);
+        put_u32(books, at + 4, self.reading.0);
+        put_u32(books, at + 8, self.day);
     }
 }

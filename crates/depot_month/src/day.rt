@@ -32,99 +32,71 @@ impl Step {
     }
 }
 
-fn round(day: u32, image: &mut [u8], events: &mut [u8], cards: &mut [u8], tally: &mut [u8]) {
+fn round(day: u32, image: &mut [u8], books: &mut [u8]) {
     let mut place: u32 = 0;
     while place < COUNTERS {
-        visited(place, day, image, events, cards, tally);
+        visited(place, day, image, books);
         place += 1;
     }
 }
 
 // On the first days the next counter is opened, at a reading of just now; with 64 opened it is a sixty-fifth. Later a counter that is
 // opened already.
-fn opening(
-    step: Step,
-    day: u32,
-    image: &mut [u8],
-    events: &[u8],
-    cards: &mut [u8],
-    tally: &mut [u8],
-) {
-    let now = module::clock(events).0;
+fn opening(step: Step, day: u32, image: &mut [u8], books: &mut [u8]) {
+    let now = module::clock(books).0;
     let reading = GlobalClock(std::num::wrapping_sub_u32(now, step.rest % 3));
     if day <= 5 {
-        let next = tally::count(tally, tally::OPENINGS);
-        opened(next, reading, day, image, cards, tally);
+        let next = tally::count(books, tally::OPENINGS);
+        opened(next, reading, day, image, books);
         return;
     }
     if step.rest % 16 == 0 {
-        opened(step.place, reading, day, image, cards, tally);
+        opened(step.place, reading, day, image, books);
     }
 }
 
 // A raise by a dock, or by the counter's tablet where that is not away.
-fn raised(
-    step: Step,
-    day: u32,
-    image: &mut [u8],
-    events: &mut [u8],
-    cards: &mut [u8],
-    tally: &mut [u8],
-) {
+fn raised(step: Step, day: u32, image: &mut [u8], books: &mut [u8]) {
     let place = step.place;
     if step.what < 5 || tablet_away(place, day) {
-        dock_raises(place, 1, image, events, cards, tally);
+        dock_raises(place, 1, image, books);
     } else {
-        tablet_raises(place, day, image, events, cards, tally);
+        tablet_raises(place, day, image, books);
     }
 }
 
 // One request in four of these is not signed.
-fn doubtful_raise(step: Step, image: &mut [u8], events: &mut [u8], cards: &[u8], tally: &mut [u8]) {
+fn doubtful_raise(step: Step, image: &mut [u8], books: &mut [u8]) {
     let verdict = if step.rest % 4 == 0 { 0 } else { 1 };
-    dock_raises(step.place, verdict, image, events, cards, tally);
+    dock_raises(step.place, verdict, image, books);
 }
 
 // What each sixteenth of the numbers drawn stands for.
-fn carry_out(
-    step: Step,
-    day: u32,
-    image: &mut [u8],
-    events: &mut [u8],
-    cards: &mut [u8],
-    tally: &mut [u8],
-) {
+fn carry_out(step: Step, day: u32, image: &mut [u8], books: &mut [u8]) {
     let place = step.place;
     let what = step.what;
     match what {
-        0 => ticked(image, events, tally),
-        1..=8 => raised(step, day, image, events, cards, tally),
-        9 => doubtful_raise(step, image, events, cards, tally),
+        0 => ticked(image, books),
+        1..=8 => raised(step, day, image, books),
+        9 => doubtful_raise(step, image, books),
         10 | 11 => {
             let at_once = step.rest % 2 == 0;
-            handed_over(place, at_once, day, image, events, cards, tally)
+            handed_over(place, at_once, day, image, books)
         }
-        12 | 13 => raise_shown(place, what == 13, day, image, events, cards, tally),
-        14 => hand_in(place, day, image, cards, tally),
-        _ => opening(step, day, image, events, cards, tally),
+        12 | 13 => raise_shown(place, what == 13, day, image, books),
+        14 => hand_in(place, day, image, books),
+        _ => opening(step, day, image, books),
     }
 }
 
 // Answers the number drawn last.
-pub(crate) fn run(
-    day: u32,
-    before: u64,
-    image: &mut [u8],
-    events: &mut [u8],
-    cards: &mut [u8],
-    tally: &mut [u8],
-) -> u64 {
-    round(day, image, events, cards, tally);
+pub(crate) fn run(day: u32, before: u64, image: &mut [u8], books: &mut [u8]) -> u64 {
+    round(day, image, books);
     let mut x = before;
     let mut left = STEPS;
     while 0 < left {
         x = drawn(x);
-        carry_out(Step::of(x), day, image, events, cards, tally);
+        carry_out(Step::of(x), day, image, books);
         left -= 1;
     }
     x

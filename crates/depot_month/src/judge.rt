@@ -37,48 +37,33 @@ pub struct Wanted {
 }
 
 // What the desk shows of an accepted proof is compared with the history and with the host.
-fn compared(
-    wanted: Wanted,
-    value: u32,
-    closing: GlobalClock,
-    events: &[u8],
-    cards: &[u8],
-    tally: &mut [u8],
-) {
+fn compared(wanted: Wanted, value: u32, closing: GlobalClock, books: &mut [u8]) {
     let place = wanted.place;
-    let opened = cards::opened(cards, place);
-    let history_value = module::value_at(events, id_of(place), opened, closing);
-    tally::mix(tally, history_value);
-    tally::add(tally, tally::ACCEPTED);
-    tally::add_if(tally, tally::CLOSING_DIFFERS, closing.0 != wanted.closing.0);
-    tally::add_if(tally, tally::VALUE_DIFFERS, value != history_value);
-    tally::add_if(tally, tally::HOST_DIFFERS, value != wanted.value);
+    let opened = cards::opened(books, place);
+    let history_value = module::value_at(books, id_of(place), opened, closing);
+    tally::mix(books, history_value);
+    tally::add(books, tally::ACCEPTED);
+    tally::add_if(books, tally::CLOSING_DIFFERS, closing.0 != wanted.closing.0);
+    tally::add_if(books, tally::VALUE_DIFFERS, value != history_value);
+    tally::add_if(books, tally::HOST_DIFFERS, value != wanted.value);
 }
 
 // The desk's answer to a proof, given yes for every signature, as a slip of the day; no slip where the desk refuses.
-pub(crate) fn judged(
-    proof: &[u8],
-    kind: Kind,
-    wanted: Wanted,
-    day: u32,
-    events: &[u8],
-    cards: &[u8],
-    tally: &mut [u8],
-) -> Slip {
+pub(crate) fn judged(proof: &[u8], kind: Kind, wanted: Wanted, day: u32, books: &mut [u8]) -> Slip {
     let yes = [1u8; VERDICTS];
     let nonce = wanted.nonce;
     let verdicts = front(&yes, verdict_count(kind, proof.len()));
     let shown = verify(proof, verdicts, id_of(wanted.place), &nonce).figures();
-    tally::mix(tally, shown.number);
-    tally::mix(tally, shown.value);
-    tally::mix(tally, shown.closing);
-    tally::mix(tally, shown.place);
+    tally::mix(books, shown.number);
+    tally::mix(books, shown.value);
+    tally::mix(books, shown.closing);
+    tally::mix(books, shown.place);
     if shown.number != 0 {
-        tally::add(tally, tally::DESK_REFUSES);
+        tally::add(books, tally::DESK_REFUSES);
         return Slip::none();
     }
     let closing = GlobalClock(shown.closing);
-    compared(wanted, shown.value, closing, events, cards, tally);
+    compared(wanted, shown.value, closing, books);
     Slip {
         value: shown.value,
         reading: closing,

@@ -23,11 +23,11 @@ fn prove_asked(
     nonce: Nonce,
     image: &mut [u8],
     out: &mut [u8],
-    tally: &mut [u8],
+    books: &mut [u8],
 ) -> Figures {
     let figures = prove(image, &nonce, id_of(place), out);
-    tally::answered(tally, image, figures);
-    tally::add_if(tally, tally::PROVED, figures.number == 0);
+    tally::answered(books, image, figures);
+    tally::add_if(books, tally::PROVED, figures.number == 0);
     figures
 }
 
@@ -38,13 +38,13 @@ fn last_asked(
     earlier: bool,
     image: &mut [u8],
     out: &mut [u8],
-    tally: &mut [u8],
+    books: &mut [u8],
 ) -> Figures {
     let figures = last(image, id_of(place), t, out);
     let written = figures.number == 0;
-    tally::answered(tally, image, figures);
-    tally::add_if(tally, tally::PROVED_LAST, written);
-    tally::add_if(tally, tally::PROVED_EARLIER, written && earlier);
+    tally::answered(books, image, figures);
+    tally::add_if(books, tally::PROVED_LAST, written);
+    tally::add_if(books, tally::PROVED_EARLIER, written && earlier);
     figures
 }
 
@@ -55,58 +55,41 @@ fn read_judged(
     nonce: Nonce,
     value: u32,
     day: u32,
-    events: &mut [u8],
-    cards: &[u8],
-    tally: &mut [u8],
+    books: &mut [u8],
 ) -> Slip {
-    module::perform(events, ModuleEvent::clock_read(nonce));
+    module::perform(books, ModuleEvent::clock_read(nonce));
     let wanted = Wanted {
         place,
         nonce,
-        closing: module::clock(events),
+        closing: module::clock(books),
         value,
     };
-    judged(proof, Kind::Read, wanted, day, events, cards, tally)
+    judged(proof, Kind::Read, wanted, day, books)
 }
 
 // A proof up to the clock, asked for with a new nonce; the host stands for a value.
-fn proved_now(
-    place: u32,
-    value: u32,
-    day: u32,
-    image: &mut [u8],
-    events: &mut [u8],
-    cards: &[u8],
-    tally: &mut [u8],
-) -> Slip {
-    let nonce = tally::nonce(tally);
+fn proved_now(place: u32, value: u32, day: u32, image: &mut [u8], books: &mut [u8]) -> Slip {
+    let nonce = tally::nonce(books);
     let mut out = [0u8; Proof::MAX_LEN];
-    let figures = prove_asked(place, nonce, image, &mut out, tally);
+    let figures = prove_asked(place, nonce, image, &mut out, books);
     if figures.number != 0 {
         return Slip::none();
     }
     let proof = front(&out, figures.value as usize);
-    read_judged(proof, place, nonce, value, day, events, cards, tally)
+    read_judged(proof, place, nonce, value, day, books)
 }
 
 // A proof up to the clock. The value that the host stands for is the one that read gives on the same image.
-pub(crate) fn proved(
-    place: u32,
-    day: u32,
-    image: &mut [u8],
-    events: &mut [u8],
-    cards: &[u8],
-    tally: &mut [u8],
-) -> Slip {
-    let value = current(place, image, events, cards, tally);
-    proved_now(place, value, day, image, events, cards, tally)
+pub(crate) fn proved(place: u32, day: u32, image: &mut [u8], books: &mut [u8]) -> Slip {
+    let value = current(place, image, books);
+    proved_now(place, value, day, image, books)
 }
 
 // The reading of the counter's last raise, or of the raise before it; of a counter that was not raised, that of its opening.
-fn raise_of(value: u32, earlier: bool, events: &[u8]) -> GlobalClock {
+fn raise_of(value: u32, earlier: bool, books: &[u8]) -> GlobalClock {
     let newest = GlobalClock(value);
     if earlier && FIRST_READING < value {
-        return GlobalClock(module::before_at(events, newest));
+        return GlobalClock(module::before_at(books, newest));
     }
     newest
 }
@@ -118,23 +101,21 @@ fn proved_at(
     earlier: bool,
     day: u32,
     image: &mut [u8],
-    events: &[u8],
-    cards: &[u8],
-    tally: &mut [u8],
+    books: &mut [u8],
 ) -> Slip {
     let mut out = [0u8; Proof::MAX_LEN];
-    let figures = last_asked(place, t, earlier, image, &mut out, tally);
+    let figures = last_asked(place, t, earlier, image, &mut out, books);
     if figures.number != 0 {
         return Slip::none();
     }
     let wanted = Wanted {
         place,
-        nonce: module::nonce_at(events, t),
+        nonce: module::nonce_at(books, t),
         closing: t,
         value: t.0,
     };
     let proof = front(&out, figures.value as usize);
-    judged(proof, Kind::Increment, wanted, day, events, cards, tally)
+    judged(proof, Kind::Increment, wanted, day, books)
 }
 
 // A proof that closes on the counter's last raise, or on the one before it.
@@ -143,11 +124,9 @@ pub(crate) fn proved_last(
     earlier: bool,
     day: u32,
     image: &mut [u8],
-    events: &[u8],
-    cards: &[u8],
-    tally: &mut [u8],
+    books: &mut [u8],
 ) -> Slip {
-    let value = current(place, image, events, cards, tally);
-    let t = raise_of(value, earlier, events);
-    proved_at(place, t, earlier, day, image, events, cards, tally)
+    let value = current(place, image, books);
+    let t = raise_of(value, earlier, books);
+    proved_at(place, t, earlier, day, image, books)
 }

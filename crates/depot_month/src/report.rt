@@ -13,26 +13,26 @@ fn labelled(label: &[u8], number: u32) {
 }
 
 // The clock is the history's: the host's is compared with it at every raise.
-pub(crate) fn day(day: u32, image: &[u8], events: &[u8], tally: &[u8]) {
+pub(crate) fn day(day: u32, image: &[u8], books: &[u8]) {
     labelled(b"day", day);
-    labelled(b": calls", tally::count(tally, tally::CALLS));
-    labelled(b", clock", module::clock(events).0);
+    labelled(b": calls", tally::count(books, tally::CALLS));
+    labelled(b", clock", module::clock(books).0);
     labelled(b", counters", counter_count(image));
     labelled(b", entries", entry_count(image));
-    labelled(b", sum", tally::count(tally, tally::SUM));
+    labelled(b", sum", tally::count(books, tally::SUM));
     line::end();
 }
 
-fn counted(label: &[u8], tally: &[u8], what: usize) {
-    labelled(label, tally::count(tally, what));
+fn counted(label: &[u8], books: &[u8], what: usize) {
+    labelled(label, tally::count(books, what));
     line::end();
 }
 
-fn refusals(tally: &[u8]) {
+fn refusals(books: &[u8]) {
     let mut number: usize = 14;
     while number < 27 {
         labelled(b"refused by", number as u32);
-        labelled(b":", tally::count(tally, number));
+        labelled(b":", tally::count(books, number));
         line::end();
         number += 1;
     }
@@ -48,72 +48,72 @@ fn image_sum(image: &[u8]) -> u32 {
     sum
 }
 
-fn calls(tally: &[u8]) {
-    counted(b"calls of the host:", tally, tally::CALLS);
-    counted(b"openings:", tally, tally::OPENINGS);
-    counted(b"ticks:", tally, tally::TICKS);
-    counted(b"raises:", tally, tally::RAISES);
-    refusals(tally);
+fn calls(books: &[u8]) {
+    counted(b"calls of the host:", books, tally::CALLS);
+    counted(b"openings:", books, tally::OPENINGS);
+    counted(b"ticks:", books, tally::TICKS);
+    counted(b"raises:", books, tally::RAISES);
+    refusals(books);
     counted(
         b"old values that tablets came with:",
-        tally,
+        books,
         tally::OLD_VALUES,
     );
     counted(
         b"of these held for a week or more:",
-        tally,
+        books,
         tally::WEEK_OLD_VALUES,
     );
     counted(
         b"confirmations on the day of their proof:",
-        tally,
+        books,
         tally::ON_TIME,
     );
-    counted(b"confirmations on a later day:", tally, tally::LATE);
-    counted(b"the latest, in days:", tally, tally::LATEST);
-    counted(b"most entries held:", tally, tally::MOST_ENTRIES);
+    counted(b"confirmations on a later day:", books, tally::LATE);
+    counted(b"the latest, in days:", books, tally::LATEST);
+    counted(b"most entries held:", books, tally::MOST_ENTRIES);
 }
 
-fn proofs(tally: &[u8]) {
-    counted(b"proofs up to the clock:", tally, tally::PROVED);
-    counted(b"proofs up to a raise:", tally, tally::PROVED_LAST);
+fn proofs(books: &[u8]) {
+    counted(b"proofs up to the clock:", books, tally::PROVED);
+    counted(b"proofs up to a raise:", books, tally::PROVED_LAST);
     counted(
         b"of these up to an earlier raise than the last:",
-        tally,
+        books,
         tally::PROVED_EARLIER,
     );
-    counted(b"proofs that the desk accepts:", tally, tally::ACCEPTED);
-    counted(b"proofs that the desk refuses:", tally, tally::DESK_REFUSES);
+    counted(b"proofs that the desk accepts:", books, tally::ACCEPTED);
+    counted(b"proofs that the desk refuses:", books, tally::DESK_REFUSES);
     counted(
         b"values shown that are not the history's:",
-        tally,
+        books,
         tally::VALUE_DIFFERS,
     );
     counted(
         b"values shown that are not the host's:",
-        tally,
+        books,
         tally::HOST_DIFFERS,
     );
     counted(
         b"closing readings that are not those asked for:",
-        tally,
+        books,
         tally::CLOSING_DIFFERS,
     );
     counted(
         b"values read that are not the history's:",
-        tally,
+        books,
         tally::READ_DIFFERS,
     );
     counted(
         b"clock readings that are not the history's:",
-        tally,
+        books,
         tally::CLOCK_DIFFERS,
     );
 }
 
-pub(crate) fn month(image: &[u8], tally: &[u8]) {
-    calls(tally);
-    proofs(tally);
+pub(crate) fn month(image: &[u8], books: &[u8]) {
+    calls(books);
+    proofs(books);
     labelled(b"proofs written, by the image:", proofs_written(image));
     line::end();
     labelled(b"sum of the image:", image_sum(image));

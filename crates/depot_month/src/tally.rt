@@ -1,5 +1,6 @@
-// What the run counts, and the sum that every answer of host and desk and every value of the history goes into: numbers of 32 bits in a
-// buffer of their own. The first of them count the calls by the number that they answered.
+// What the run counts, and the sum that every answer of host and desk and every value of the history goes into: numbers of 32 bits at
+// the end of the books. The first of them count the calls by the number that they answered.
+use crate::cards;
 use crate::plan::PRIME;
 use forms::nonce::LEN;
 use forms::nonce::Nonce;
@@ -10,7 +11,9 @@ use image::header::entry_count;
 
 const NUMBERS: usize = 64;
 
-pub(crate) const ROOM: usize = 4 * NUMBERS;
+const FIRST: usize = cards::END;
+
+pub(crate) const END: usize = FIRST + 4 * NUMBERS;
 
 pub(crate) const CALLS: usize = 32;
 
@@ -54,31 +57,31 @@ pub(crate) const HOST_DIFFERS: usize = 51;
 
 pub(crate) const SUM: usize = 52;
 
-pub(crate) fn count(tally: &[u8], what: usize) -> u32 {
-    get_u32(tally, 4 * (what % NUMBERS))
+pub(crate) fn count(books: &[u8], what: usize) -> u32 {
+    get_u32(books, FIRST + 4 * (what % NUMBERS))
 }
 
-pub(crate) fn set(tally: &mut [u8], what: usize, number: u32) {
-    put_u32(tally, 4 * (what % NUMBERS), number);
+pub(crate) fn set(books: &mut [u8], what: usize, number: u32) {
+    put_u32(books, FIRST + 4 * (what % NUMBERS), number);
 }
 
-pub(crate) fn add(tally: &mut [u8], what: usize) {
-    let before = count(tally, what);
+pub(crate) fn add(books: &mut [u8], what: usize) {
+    let before = count(books, what);
     if before < u32::MAX {
-        set(tally, what, before + 1);
+        set(books, what, before + 1);
     }
 }
 
-pub(crate) fn add_if(tally: &mut [u8], what: usize, holds: bool) {
+pub(crate) fn add_if(books: &mut [u8], what: usize, holds: bool) {
     if holds {
-        add(tally, what);
+        add(books, what);
     }
 }
 
 // Keeps the greatest of the numbers met.
-pub(crate) fn greatest(tally: &mut [u8], what: usize, number: u32) {
-    if count(tally, what) < number {
-        set(tally, what, number);
+pub(crate) fn greatest(books: &mut [u8], what: usize, number: u32) {
+    if count(books, what) < number {
+        set(books, what, number);
     }
 }
 
@@ -87,23 +90,23 @@ pub(crate) fn mixed(sum: u32, figure: u32) -> u32 {
     ((sum as u64 * 65537 + figure as u64) % PRIME) as u32
 }
 
-pub(crate) fn mix(tally: &mut [u8], figure: u32) {
-    let sum = count(tally, SUM);
-    set(tally, SUM, mixed(sum, figure));
+pub(crate) fn mix(books: &mut [u8], figure: u32) {
+    let sum = count(books, SUM);
+    set(books, SUM, mixed(sum, figure));
 }
 
 // Takes up what a call of the host answered, and how many entries the image holds after it.
-pub(crate) fn answered(tally: &mut [u8], image: &[u8], figures: Figures) {
-    add(tally, CALLS);
-    add(tally, figures.number as usize);
-    mix(tally, figures.number);
-    mix(tally, figures.value);
-    greatest(tally, MOST_ENTRIES, entry_count(image));
+pub(crate) fn answered(books: &mut [u8], image: &[u8], figures: Figures) {
+    add(books, CALLS);
+    add(books, figures.number as usize);
+    mix(books, figures.number);
+    mix(books, figures.value);
+    greatest(books, MOST_ENTRIES, entry_count(image));
 }
 
 // A nonce that no call had before: the calls so far stand in it.
-pub(crate) fn nonce(tally: &[u8]) -> Nonce {
+pub(crate) fn nonce(books: &[u8]) -> Nonce {
     let mut nonce = [0x5Au8; LEN];
-    put_u32(&mut nonce, LEN - 4, count(tally, CALLS));
+    put_u32(&mut nonce, LEN - 4, count(books, CALLS));
     nonce
 }

@@ -7,10 +7,10 @@ use Rattle.depot_month.proofs.days.Statement.{statement}
 use Rattle.depot_month.proofs.days.Tie as tie
 
 abbrev Inv-loop : tie.InvT-loop
-Inv-loop image₀ events₀ cards₀ tally₀ x₀ day₀ image events cards tally x day = (length image ≡ length image₀) × (length events ≡ length events₀) × (length cards ≡ length cards₀) × (length tally ≡ length tally₀) × (day ≤ 31)
+Inv-loop image₀ books₀ x₀ day₀ image books x day = (length image ≡ length image₀) × (length books ≡ length books₀) × (day ≤ 31)
 
 abbrev μ-loop : tie.MeasureT-loop
-μ-loop image₀ events₀ cards₀ tally₀ x₀ day₀ image events cards tally x day = 31 - day
+μ-loop image₀ books₀ x₀ day₀ image books x day = 31 - day
 
 pub days-spec : {M : Type 1} → statement M
 days-spec =
@@ -21,8 +21,6 @@ days-spec =
     (λ c. search needs)
     (λ c κs. search needs)
     (λ c κs. search needs)
-    (λ c. search needs)
-    (λ c. search needs)
     (λ c. search needs)
     (λ c. search needs)
     (λ c. search needs)

@@ -7,10 +7,10 @@ use Rattle.depot_month.proofs.day.round.Statement.{statement}
 use Rattle.depot_month.proofs.day.round.Tie as tie
 
 abbrev Inv-loop : tie.InvT-loop
-Inv-loop day image₀ events₀ cards₀ tally₀ place₀ image events cards tally place = (length image ≡ length image₀) × (length events ≡ length events₀) × (length cards ≡ length cards₀) × (length tally ≡ length tally₀)
+Inv-loop day image₀ books₀ place₀ image books place = (length image ≡ length image₀) × (length books ≡ length books₀)
 
 abbrev μ-loop : tie.MeasureT-loop
-μ-loop day image₀ events₀ cards₀ tally₀ place₀ image events cards tally place = 64 - place
+μ-loop day image₀ books₀ place₀ image books place = 64 - place
 
 pub round-spec : {M : Type 1} → statement M
 round-spec =
@@ -20,8 +20,6 @@ round-spec =
     μ-loop
     (λ c. search needs)
     (λ c κs. search needs)
-    (λ c. search needs)
-    (λ c. search needs)
     (λ c. search needs)
     (λ c. search needs)
     (λ c. search needs)

@@ -6,10 +6,10 @@ use Rattle.depot_month.proofs.day.run.Statement.{statement}
 use Rattle.depot_month.proofs.day.run.Tie as tie
 
 abbrev Inv-loop : tie.InvT-loop
-Inv-loop day before image₀ events₀ cards₀ tally₀ x₀ left₀ image events cards tally x left = (length image ≡ length image₀) × (length events ≡ length events₀) × (length cards ≡ length cards₀) × (length tally ≡ length tally₀)
+Inv-loop day before image₀ books₀ x₀ left₀ image books x left = (length image ≡ length image₀) × (length books ≡ length books₀)
 
 abbrev μ-loop : tie.MeasureT-loop
-μ-loop day before image₀ events₀ cards₀ tally₀ x₀ left₀ image events cards tally x left = left
+μ-loop day before image₀ books₀ x₀ left₀ image books x left = left
 
 pub run-spec : {M : Type 1} → statement M
 run-spec =
@@ -22,8 +22,6 @@ run-spec =
     (λ c κs. search needs)
     (λ c κs. search needs)
     (λ c κs. search needs)
-    (λ c. search needs)
-    (λ c. search needs)
     (λ c. search needs)
     (λ c. search needs)
     (λ c. search needs)
