@@ -11,7 +11,7 @@ use borrow.Author.Tests.{eqb-true, eqb-false, eq-eqb, not-true}
 use Rattle.forms.specs.Bytes.{Bytes}
 use Rattle.forms.specs.Checks.{Row, firstOf}
 use Rattle.forms.specs.Entry.{entryOf}
-use Rattle.forms.specs.Limits.{nonceLen, imageLen, maxEntries}
+use Rattle.forms.specs.Limits.{largest, nonceLen, imageLen, maxEntries}
 use Rattle.forms.specs.PartsLaws.{ConfirmationFits}
 use Rattle.forms.specs.TestsLaws.{both}
 use Rattle.forms.specs.Terms.{sameId, globalClock}
@@ -27,7 +27,7 @@ use Rattle.image.specs.Sound.{oldest, base, soundState, sound}
 use Rattle.image.specs.State.{Record, State, decode, encode}
 use Rattle.host.specs.ConfirmLaws.{confirmed-sound}
 use Rattle.host.specs.EffectLaws.{clock-runs, entry-room, record-room}
-use Rattle.host.specs.Host.{Settled, largest, openRefusal, tickRefusal, incrementRefusal, confirmRefusal, openRows, tickRows, incrementRows, readRows, proveRows, lastRows, confirmRows, started, opened, raised, noneHeld, advanced, ticked, counted, replaced, confirmedState, settled, startCall, readRefusal, currentOf, proofOf, lastOf, proveRefusal, lastRefusal, readCall}
+use Rattle.host.specs.Host.{Settled, openRefusal, tickRefusal, incrementRefusal, confirmRefusal, openRows, tickRows, incrementRows, readRows, proveRows, lastRows, confirmRows, started, opened, raised, noneHeld, advanced, ticked, counted, replaced, confirmedState, settled, startCall, readRefusal, currentOf, proofOf, lastOf, proveRefusal, lastRefusal, readCall}
 use Rattle.host.specs.OpenLaws.{opened-sound}
 use Rattle.host.specs.RaiseLaws.{started-sound, counted-sound, incremented-sound, ticked-sound}
 use Rattle.host.specs.RefusalLaws.{open-passed, tick-passed, increment-passed}

@@ -8,15 +8,15 @@ use lib.Dec.{leb}
 use lib.ListN.{length, replicate}
 use borrow.Author.Tests.{leb-true}
 use Rattle.forms.specs.Bytes.{Bytes, same}
+use Rattle.forms.specs.Limits.{largest}
 use Rattle.forms.specs.TestsLaws.{both}
-use Rattle.host.specs.Host.{largest}
-use Rattle.console.specs.Grammar.{startName, openName, tickName, incName, readName, proveName, lastName, confirmName, oneOf, twoOf, thirdTo, argumentsOf, ofByte, named, byWords, words, commandOf}
-use Rattle.console.specs.Numeral.{unpadded, allDigits, valueOf, figureOf}
+use Rattle.grammar.specs.Command.{startName, openName, tickName, incName, readName, proveName, lastName, confirmName, oneOf, twoOf, thirdTo, argumentsOf, ofByte, named, byWords, words, commandOf}
+use Rattle.grammar.specs.Numeral.{unpadded, allDigits, valueOf, figureOf}
+use Rattle.grammar.specs.declared.command.Arguments.{Arguments}
+use Rattle.grammar.specs.declared.command.Command.{Command}
+use Rattle.grammar.specs.declared.numeral.Figure.{Figure}
 use Rattle.console.specs.Session.{maxLine, lineCommand}
 use Rattle.console.specs.Step.{nonceOf, emptyOutput, yes}
-use Rattle.console.specs.declared.grammar.Arguments.{Arguments}
-use Rattle.console.specs.declared.grammar.Command.{Command}
-use Rattle.console.specs.declared.numeral.Figure.{Figure}
 use Rattle.assurance.specs.HostList.{HostCall, Widths}
 
 -- the call that a command makes; a line that is none of the commands makes none, and `read` leaves the image as it does

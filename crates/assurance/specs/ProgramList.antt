@@ -7,9 +7,9 @@ use lib.ListN.{length, replicate}
 use Rattle.forms.specs.Limits.{imageLen}
 use Rattle.forms.specs.declared.terms.GlobalClock.{GlobalClock}
 use Rattle.host.specs.Host.{startCall, readCall, proveCall, lastCall}
+use Rattle.grammar.specs.declared.command.Command.{Command}
 use Rattle.console.specs.Session.{lineCommand}
 use Rattle.console.specs.Step.{nonceOf, emptyOutput, ran}
-use Rattle.console.specs.declared.grammar.Command.{Command}
 
 -- what a command prints on an image: a `prove` that the host does not refuse prints 0 and what `read` gives on the same image, a `last` 0 and t
 abbrev pub Shows : List ℕ → Command → Type 0

@@ -18,9 +18,9 @@ use Rattle.desk.specs.Desk.{allYes, verified}
 use Rattle.desk.specs.declared.answer.Figures.{Figures as DeskFigures}
 use Rattle.host.specs.Host.{startCall, readCall, proveCall, lastCall, proofOf, lastOf, proveOutput, lastOutput, requestNonce}
 use Rattle.host.specs.declared.answer.Figures.{Figures}
+use Rattle.grammar.specs.declared.command.Command.{Command}
 use Rattle.console.specs.Session.{lineCommand}
 use Rattle.console.specs.Step.{nonceOf, emptyOutput, yes, deskFigures, shown, ran}
-use Rattle.console.specs.declared.grammar.Command.{Command}
 use Rattle.assurance.specs.HostList.{HostCall, Widths, Taken}
 use Rattle.assurance.specs.HostProof.{prove-fair, last-fair}
 use Rattle.assurance.specs.HostSteps.{Kept, Steps, start-steps, call-steps}

@@ -1,9 +1,4 @@
 pub mod AnswerLaws
-pub mod Grammar
-pub mod GrammarLaws
-pub mod Numeral
-pub mod NumeralLaws
-pub mod NumeralRoundTrip
 pub mod Session
 pub mod SessionLaws
 pub mod SessionPrinted

@@ -8,7 +8,8 @@ use lib.Dec.{eqb, leb, ltb}
 use lib.ListN.{length, take, drop, replicate}
 use Rattle.forms.specs.Limits.{imageLen}
 use Rattle.host.specs.Host.{Settled}
-use Rattle.console.specs.Grammar.{Command, commandOf}
+use Rattle.grammar.specs.Command.{commandOf}
+use Rattle.grammar.specs.declared.command.Command.{Command}
 use Rattle.console.specs.Step.{ran, answerText, maxAnswer}
 use Rattle.console.specs.declared.session.Fed.{Fed}
 use Rattle.console.specs.declared.session.Line.{Line}

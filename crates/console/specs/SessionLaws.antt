@@ -12,7 +12,7 @@ use borrow.Author.Tests.{le-leb, lt-leb, lt-ltb, le-ltb, eq-eqb, ne-eqb}
 use Rattle.forms.specs.Bytes.{overwrite}
 use Rattle.forms.specs.BytesLaws.{overwrite-fits, length-overwrite}
 use Rattle.host.specs.declared.answer.Figures.{Figures}
-use Rattle.console.specs.Grammar.{Command}
+use Rattle.grammar.specs.declared.command.Command.{Command}
 use Rattle.console.specs.AnswerLaws.{answer-short}
 use Rattle.console.specs.Step.{answerText, maxAnswer, ran}
 use Rattle.console.specs.Session.{Session, Printed, Pending, within, over, begun, byteTaken, closed, ended, endedSession, extended, fedSession, maxLine, newline, pendingCommand, pendingOf, printed, resumed, taken}

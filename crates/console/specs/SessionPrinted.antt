@@ -9,7 +9,8 @@ use lib.Dec.{eqb, leb}
 use lib.ListN.{length, replicate, length-append}
 use borrow.Author.Tests.{lt-leb, leb-false}
 use Rattle.forms.specs.Limits.{imageLen}
-use Rattle.console.specs.Grammar.{Command, commandOf}
+use Rattle.grammar.specs.Command.{commandOf}
+use Rattle.grammar.specs.declared.command.Command.{Command}
 use Rattle.console.specs.Step.{answerText, ran}
 use Rattle.console.specs.Session.{Session, Pending, within, over, begun, byteTaken, closed, ended, extended, lineCommand, lines, maxLine, newline, pendingCommand, printed, taken, toFirst, transcript}
 

@@ -15,8 +15,8 @@ use Rattle.desk.specs.declared.answer.Answer.{Answer}
 use Rattle.host.specs.Host.{Settled, startCall, openCall, tickCall, incrementCall, readCall, proveCall, lastCall, confirmCall}
 use Rattle.host.specs.declared.answer.Figures.{Figures}
 use Rattle.host.specs.Host.{proofOf, lastOf, proveOutput, lastOutput, requestNonce}
-use Rattle.console.specs.Grammar.{Command}
-use Rattle.console.specs.Numeral.{numeral}
+use Rattle.grammar.specs.Numeral.{numeral}
+use Rattle.grammar.specs.declared.command.Command.{Command}
 
 -- "A byte b stands for a nonce of 20 bytes b"
 abbrev pub nonceOf : ℕ → List ℕ

@@ -26,7 +26,7 @@ use Rattle.host.specs.Host.{hasEntry, requestNonce, heldOf, proofOf, lastOf, pr
 use Rattle.host.specs.LastLaws.{has-none, log-few}
 use Rattle.host.specs.RefusalLaws.{prove-passed, last-passed}
 use Rattle.host.specs.declared.answer.Figures.{Figures}
-use Rattle.console.specs.Grammar.{Command}
+use Rattle.grammar.specs.declared.command.Command.{Command}
 use Rattle.console.specs.Step.{deskFigures, emptyOutput, nonceOf, ran, shown}
 
 -- how many verdicts there are on a proof of a kind and a length

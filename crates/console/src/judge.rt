@@ -20,7 +20,7 @@ ghost use Rattle.forms.specs.Entry.{entriesAt};
 ghost use Rattle.forms.specs.Limits.{imageLogOffset, maxEntries, maxProofLen};
 ghost use Rattle.validity.specs.Proof.{logOffset};
 ghost use Rattle.desk.specs.Desk.{verified};
-ghost use Rattle.console.specs.Grammar.{Command};
+ghost use Rattle.grammar.specs.declared.command.Command.{Command};
 ghost use Rattle.console.specs.Step.{deskFigures, ran};
 ghost use Rattle.console.specs.StepLaws.{FoundIn, FoundNonce, verdictsFor};
 

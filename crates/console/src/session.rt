@@ -1,8 +1,8 @@
 // An input that comes in parts of any cut: each whole line is answered, and what stands of the next one is kept for the next part.
-use crate::grammar::Command;
-use crate::grammar::read_command;
 use crate::step::put_answer;
 use crate::step::step;
+use grammar::command::Command;
+use grammar::command::read_command;
 use text::part::front;
 ghost use mathlib.Core.Path.{_≡_};
 ghost use Prim.Native.Nat.{_+_, _≤_};

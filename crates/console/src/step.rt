@@ -1,10 +1,10 @@
 // One command over an image, and the text of its answer.
-use crate::grammar::Command;
 use crate::judge::show_last;
 use crate::judge::show_prove;
-use crate::numeral::put_numeral;
 use forms::bytes::put;
 use forms::nonce;
+use grammar::command::Command;
+use grammar::numeral::put_numeral;
 use host::answer::Figures;
 use host::confirm::confirm;
 use host::open::open;

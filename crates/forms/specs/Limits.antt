@@ -2,6 +2,10 @@
 -- the document's own figure follows; the figure stands in the comment. Assumes nothing.
 use Prim.Native.Nat.{ℕ, _+_, _*_}
 
+-- the largest number of 32 bits, and so the clock's last reading
+abbrev pub largest : ℕ
+largest = 4294967295
+
 -- anti-replay nonce (document 01: nonce)
 abbrev pub nonceLen : ℕ
 nonceLen = 20

@@ -8,7 +8,7 @@ use lib.ListN.{length, take, drop}
 use Rattle.forms.specs.Chain.{valueAfter}
 use Rattle.forms.specs.Checks.{Row, _gives_, firstOf}
 use Rattle.forms.specs.Entry.{entryOf, logBytes}
-use Rattle.forms.specs.Limits.{nonceLen, imageLen, maxCounters, maxEntries}
+use Rattle.forms.specs.Limits.{largest, nonceLen, imageLen, maxCounters, maxEntries}
 use Rattle.forms.specs.Terms.{counterId, globalClock, sameId}
 use Rattle.forms.specs.declared.confirmation.Confirmation.{Confirmation}
 use Rattle.forms.specs.declared.entry.Entry.{Entry}
@@ -19,10 +19,6 @@ use Rattle.validity.specs.Proof.{Fields, read, increment, shapeOf, proofLen, en
 use Rattle.image.specs.State.{Record, State, decode, encode}
 use Rattle.image.specs.Sound.{holds, oldest, base, after, current, sound}
 pub use Rattle.host.specs.declared.answer.Figures.{Figures}
-
--- the largest number of 32 bits: the clock's last reading, and where the count of proofs stops
-abbrev pub largest : ℕ
-largest = 4294967295
 
 -- ---- what a state says of a counter
 

@@ -7,14 +7,14 @@ use lib.Dec.{eqb, ltb}
 use mathlib.Core.List.{List}
 use lib.ListN.{length}
 use borrow.Author.Tests.{eqb-true, eqb-false, eq-eqb, ltb-false, not-false}
-use Rattle.forms.specs.Limits.{nonceLen, maxCounters, maxEntries}
+use Rattle.forms.specs.Limits.{largest, nonceLen, maxCounters, maxEntries}
 use Rattle.forms.specs.declared.confirmation.Confirmation.{Confirmation}
 use Rattle.forms.specs.declared.terms.CounterId.{CounterId}
 use Rattle.forms.specs.declared.terms.GlobalClock.{GlobalClock}
 use Rattle.forms.specs.TestsLaws.{neither}
 use Rattle.image.specs.State.{State}
 use Rattle.image.specs.Sound.{holds}
-use Rattle.host.specs.Host.{largest, heldOf, currentOf, valueAt, openRefusal, tickRefusal, incrementRefusal, confirmRefusal, proveRefusal, lastRefusal, hasEntry, entriesOf}
+use Rattle.host.specs.Host.{heldOf, currentOf, valueAt, openRefusal, tickRefusal, incrementRefusal, confirmRefusal, proveRefusal, lastRefusal, hasEntry, entriesOf}
 
 -- where a table gives 0, a first row with another number was passed over, and the rest gives 0
 pub refusal-passed : (test : Bool) (number others : ℕ) → not (eqb number 0) ≡ true → cond test number others ≡ 0 → (test ≡ false) × (others ≡ 0)

@@ -3,12 +3,10 @@ use forms::confirmation::Confirmation;
 use forms::nonce;
 use forms::terms::CounterId;
 use forms::terms::GlobalClock;
-use image::header::clock;
 ghost use mathlib.Core.Path.{_≡_};
 ghost use mathlib.Core.Bool.{_||_, not};
 ghost use lib.Dec.{eqb, ltb};
-ghost use Rattle.image.specs.State.{decode};
-ghost use Rattle.host.specs.Host.{badNonce, largest};
+ghost use Rattle.host.specs.Host.{badNonce};
 
 // 16: a confirmation of no counter, or with a value above its reading.
 pub(crate) fn bad_confirmation(confirmation: Confirmation) -> bool
@@ -36,11 +34,4 @@ pub(crate) fn bad_opening(confirmation: Confirmation, now: GlobalClock) -> bool
     ensures { λ r. ⌜ r ≡ (ltb (now .0) (confirmation .reading .0) || not (eqb (confirmation .value) (confirmation .reading .0))) ⌝ }
 {
     now.0 < confirmation.reading.0 || confirmation.value != confirmation.reading.0
-}
-
-// 25: the clock is at its end.
-pub(crate) fn clock_ended(image: &[u8]) -> bool
-    ensures { λ r. ⌜ r ≡ eqb (decode (now (image .entry)) .clock .0) largest ⌝ }
-{
-    clock(image).0 == u32::MAX
 }

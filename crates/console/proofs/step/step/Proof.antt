@@ -4,7 +4,7 @@ use mathlib.Core.List.{List}
 use Prim.Native.Nat.{ℕ}
 use borrow.Author.Needs.{needs}
 use Rattle.host.specs.declared.answer.Figures.{Figures}
-use Rattle.console.specs.Grammar.{Command}
+use Rattle.grammar.specs.declared.command.Command.{Command}
 use Rattle.console.specs.Step.{ran}
 use Rattle.console.proofs.step.step.Statement.{statement}
 use Rattle.console.proofs.step.step.Tie as tie

@@ -3,7 +3,7 @@ use mathlib.Core.Path.{sym, ap, _∙_}
 use mathlib.Core.Bool.{Bool, cond}
 use borrow.Author.Needs.{needs}
 use lib.ListN.{take}
-use Rattle.console.specs.Grammar.{commandOf}
+use Rattle.grammar.specs.Command.{commandOf}
 use Rattle.console.specs.Session.{over, pendingCommand, within}
 use Rattle.console.proofs.session.Line.command.Statement.{statement}
 use Rattle.console.proofs.session.Line.command.Tie as tie

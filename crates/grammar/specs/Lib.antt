@@ -1,0 +1,5 @@
+pub mod Command
+pub mod CommandLaws
+pub mod Numeral
+pub mod NumeralLaws
+pub mod NumeralRoundTrip

@@ -1,0 +1,78 @@
+// Decimal figures as text, without leading zeros: read from a part of a line, and written.
+use forms::bytes::put;
+use forms::bytes::wide;
+ghost use mathlib.Core.Path.{_≡_};
+ghost use Prim.Native.Nat.{_-_, _≤_};
+ghost use lib.ListN.{length, take, drop};
+ghost use Rattle.forms.specs.Bytes.{overwrite};
+ghost use Rattle.grammar.specs.Numeral.{figureOf, numeral, numeralEnd};
+ghost use Rattle.grammar.specs.NumeralLaws.{valueWithin};
+
+// What stands in a field.
+pub enum Figure {
+    Number(u32),
+    // No figure, or one that is too large.
+    Missing,
+}
+
+// Stands for a value that is none: past the largest of 32 bits.
+const NONE: u64 = u32::MAX as u64 + 1;
+
+// The number that the digits from a place on and up to another stand for, or `NONE` where a byte is no digit or the number is too large.
+fn value_within(line: &[u8], from: usize, to: usize) -> u64
+    requires { ⌜ (from ≤ to) × (to ≤ length (now line)) ⌝ }
+    ensures { λ r. ⌜ r ≡ valueWithin 0 (take (to - from) (drop from (now (line .entry)))) ⌝ }
+{
+    let mut value: u64 = 0;
+    let mut i = from;
+    while i < to {
+        let byte = line[i];
+        if byte < b'0' || b'9' < byte {
+            return NONE;
+        }
+        value = value * 10 + wide(byte - b'0') as u64;
+        if NONE <= value {
+            return NONE;
+        }
+        i += 1;
+    }
+    value
+}
+
+// The figure in the field from a place of a line on and up to another.
+pub(crate) fn read_figure(line: &[u8], from: usize, to: usize) -> Figure
+    requires { ⌜ (from ≤ to) × (to ≤ length (now line)) ⌝ }
+    ensures { λ r. ⌜ r ≡ figureOf (take (to - from) (drop from (now (line .entry)))) ⌝ }
+{
+    if from == to {
+        return Figure::Missing;
+    }
+    if 1 < to - from && line[from] == b'0' {
+        return Figure::Missing;
+    }
+    let value = value_within(line, from, to);
+    if NONE <= value {
+        return Figure::Missing;
+    }
+    Figure::Number(value as u32)
+}
+
+// Stores a number's digits from a place on, and answers the place behind them. Where they do not fit from there on, nothing is stored and the
+// place itself is answered.
+//
+// Ruled out, among others: a writer that stores the digits for which there is room; one that asks for room for ten digits to store one.
+pub fn put_numeral(text: &mut [u8], at: usize, number: u32) -> usize
+    ensures { λ r. ⌜ r ≡ numeralEnd (now (text .entry)) at number ⌝ }
+    ensures { λ _. ⌜ now (text .exit) ≡ overwrite (now (text .entry)) at (numeral number) ⌝ }
+{
+    let mut digits = [0u8; 20];
+    let count = io::decimal(number as u64, &mut digits);
+    if text.len() < at {
+        return at;
+    }
+    if text.len() - at < count {
+        return at;
+    }
+    put(text, at, &digits[..count]);
+    at + count
+}
