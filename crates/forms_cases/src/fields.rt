@@ -1,4 +1,5 @@
 // The fields that a proof's bytes read as, a line each for the confirmation, the clock certificate, the first and the last entry.
+use crate::print::print;
 use crate::sample;
 use forms::certificate::Certificate;
 use forms::confirmation::Confirmation;
@@ -6,55 +7,52 @@ use forms::entry::Entry;
 use forms::event::Carried;
 use forms::event::Event;
 use forms::event::ModuleEvent;
-use forms::nonce::Nonce;
 use text::checksum::checksum;
 use text::line;
+use text::part::front;
 use validity::proof::Kind;
 use validity::proof::Parsed;
 use validity::proof::Proof;
 use validity::proof::parse;
 use validity::proof::parse_number;
 
-fn verdict(holds: bool) {
-    if holds {
+// Ends the line with whether the nonce is the one written and whether it is another.
+fn verdicts(same: bool, other: bool) {
+    if same {
         line::text(b" yes");
     } else {
         line::text(b" no");
     }
-}
-
-fn print_nonce(nonce: Nonce) {
-    line::number(checksum(&nonce));
+    if other {
+        line::text(b" yes\n");
+    } else {
+        line::text(b" no\n");
+    }
 }
 
 // Prints id, value and reading.
-pub(crate) fn confirmation(s: &[u8]) {
+fn confirmation(s: &[u8]) {
     let read = Confirmation::read(s, Proof::CONFIRMATION);
-    line::text(b"confirmation:");
-    line::figure(read.id.0);
-    line::figure(read.value);
-    line::figure(read.reading.0);
-    line::end();
+    print(
+        b"confirmation:###\n",
+        &[read.id.0, read.value, read.reading.0],
+    );
 }
 
-// Prints the reading, and whether the nonce is the one written and whether it is another.
-pub(crate) fn certificate(s: &[u8], at: usize) {
+// Prints the reading.
+fn certificate(s: &[u8], at: usize) {
     let nonce = sample::nonce(sample::CERTIFICATE_SEED);
     let other = sample::other(sample::CERTIFICATE_SEED);
-    line::text(b"certificate:");
-    line::figure(Certificate::reading_at(s, at).0);
-    verdict(Certificate::nonce_is(s, at, &nonce));
-    verdict(Certificate::nonce_is(s, at, &other));
-    line::end();
+    print(b"certificate:#", &[Certificate::reading_at(s, at).0]);
+    verdicts(
+        Certificate::nonce_is(s, at, &nonce),
+        Certificate::nonce_is(s, at, &other),
+    );
 }
 
 fn carried(carried: Carried) {
     match carried {
-        Carried::Request(id, before) => {
-            line::text(b" request");
-            line::figure(id.0);
-            line::figure(before);
-        }
+        Carried::Request(id, before) => print(b" request##", &[id.0, before]),
         Carried::Tick => line::text(b" tick"),
     }
 }
@@ -66,27 +64,28 @@ fn event(read: ModuleEvent) {
         Event::Read => line::text(b" read"),
     }
     let nonce = read.nonce;
-    print_nonce(nonce);
+    line::number(checksum(&nonce));
 }
 
-// Prints reading, id, value before and the nonce; the event with its nonce; and whether the nonce is the one written and whether
-// it is another.
+// Prints reading, id, value before and the nonce; and the event with its nonce.
+fn held(read: Entry, place: u32) {
+    print(
+        b"entry#:###",
+        &[place, read.reading.0, read.id.0, read.before],
+    );
+    let nonce = read.nonce;
+    line::number(checksum(&nonce));
+    event(read.event());
+}
+
 fn entry(s: &[u8], at: usize, place: u32) {
     let nonce = sample::nonce(sample::entry_seed(place));
     let other = sample::other(sample::entry_seed(place));
-    let read = Entry::read(s, at);
-    line::text(b"entry");
-    line::figure(place);
-    line::text(b":");
-    line::figure(read.reading.0);
-    line::figure(read.id.0);
-    line::figure(read.before);
-    let held = read.nonce;
-    print_nonce(held);
-    event(read.event());
-    verdict(Entry::nonce_is(s, at, &nonce));
-    verdict(Entry::nonce_is(s, at, &other));
-    line::end();
+    held(Entry::read(s, at), place);
+    verdicts(
+        Entry::nonce_is(s, at, &nonce),
+        Entry::nonce_is(s, at, &other),
+    );
 }
 
 // The first entry, and the last where it is another.
@@ -105,7 +104,7 @@ fn entries(s: &[u8], log: usize, count: u32) {
 }
 
 // Prints the fields of bytes that read as a proof.
-pub(crate) fn all(s: &[u8]) {
+fn all(s: &[u8]) {
     let Parsed::Proof(proof) = parse(s) else {
         return;
     };
@@ -119,7 +118,7 @@ pub(crate) fn all(s: &[u8]) {
 }
 
 // Prints document 01's number for reading the bytes, and the number of entries.
-pub(crate) fn reading(s: &[u8]) {
+fn reading(s: &[u8]) {
     let parsed = parse(s);
     line::figure(parse_number(parsed));
     let Parsed::Proof(proof) = parsed else {
@@ -127,4 +126,13 @@ pub(crate) fn reading(s: &[u8]) {
         return;
     };
     line::figure(proof.count);
+}
+
+// Ends the line with what the first bytes read as and one number for all bytes, then prints the fields.
+pub(crate) fn read_back(out: &[u8], len: usize) {
+    let proof = front(out, len);
+    reading(proof);
+    line::number(checksum(out));
+    line::end();
+    all(proof);
 }

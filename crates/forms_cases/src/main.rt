@@ -1,22 +1,27 @@
-// The forms of document 01, written, read back and refused, one case a line. The expected output is calculated from the document's
-// tables and not by this program.
-mod content;
+// The forms of document 01, written, read back and refused, one case a line. The cases are lines of the input; the expected output is
+// calculated from the document's tables and not by this program.
 mod damage;
 mod fields;
-mod header;
+mod part;
+mod print;
 mod refusal;
 mod roundtrip;
 mod sample;
+mod sweep;
+mod table;
+
+use libc::STDIN_FILENO;
+use text::line;
 
 fn main() {
-    let mut entries = [0u8; sample::ENTRIES_LEN];
-    run(&mut entries);
-}
-
-fn run(entries: &mut [u8]) {
-    sample::fill(entries);
-    roundtrip::run(entries);
-    content::run(entries);
-    refusal::run(entries);
-    damage::run(entries);
+    let mut text = io::large_buffer();
+    let len = io::read_full(STDIN_FILENO, &mut text);
+    let mut entries = [0u8; sample::ENTRIES_ROOM];
+    sample::fill(&mut entries);
+    sample::put_misread(&mut entries);
+    table::run(&text[..len], &entries);
+    // Where the input fills its room there may be more of it.
+    if text.len() <= len {
+        line::text(b"no room for all cases\n");
+    }
 }

@@ -14,11 +14,16 @@ pub const ENTRIES: u32 = Proof::MAX_ENTRIES + 1;
 
 pub const ENTRIES_LEN: usize = Entry::LEN * (ENTRIES as usize);
 
+// Room for the entries, and behind them for two that a desk would refuse.
+pub const ENTRIES_ROOM: usize = ENTRIES_LEN + Entry::LEN * 2;
+
 // Room for the longest proof and one entry more.
 pub const OUTPUT_LEN: usize = Proof::MAX_LEN + Entry::LEN;
 
 // What an output holds before.
 pub const UNTOUCHED: u8 = 0xA5;
+
+const LARGEST: u32 = 4294967295;
 
 const READING: u32 = 0x090A0B0C;
 
@@ -85,4 +90,16 @@ pub(crate) fn fill(entries: &mut [u8]) {
         entry(place).write(entries, Entry::LEN * (place as usize));
         place += 1;
     }
+}
+
+// Stores behind the entries two whose readings do not follow a confirmation's: 0, with a value but no counter, and then the largest.
+pub(crate) fn put_misread(entries: &mut [u8]) {
+    let first = Entry::new(GlobalClock(0), Carried::Request(CounterId(0), 5), nonce(0));
+    let last = Entry::new(
+        GlobalClock(LARGEST),
+        Carried::Request(CounterId(LARGEST), LARGEST),
+        nonce(1),
+    );
+    first.write(entries, ENTRIES_LEN);
+    last.write(entries, ENTRIES_LEN + Entry::LEN);
 }

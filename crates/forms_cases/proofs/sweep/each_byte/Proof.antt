@@ -1,14 +1,16 @@
--- `forms_cases::damage::each_byte` is safe and ends: the measure is the bytes left. Assumes nothing.
+-- `forms_cases::sweep::each_byte` is safe and ends: the proof keeps its length, and the measure is the bytes left. Assumes nothing.
+use mathlib.Core.Path.{_≡_}
 use Prim.Native.Nat.{_-_}
+use lib.ListN.{length}
 use borrow.Author.Needs.{needs}
-use Rattle.forms_cases.proofs.damage.each_byte.Statement.{statement}
-use Rattle.forms_cases.proofs.damage.each_byte.Tie as tie
+use Rattle.forms_cases.proofs.sweep.each_byte.Statement.{statement}
+use Rattle.forms_cases.proofs.sweep.each_byte.Tie as tie
 
 abbrev Inv-loop : tie.InvT-loop
-Inv-loop kind len entries at₀ at = Unit {0}
+Inv-loop proof₀ at₀ proof at = length proof ≡ length proof₀
 
 abbrev μ-loop : tie.MeasureT-loop
-μ-loop kind len entries at₀ at = len - at
+μ-loop proof₀ at₀ proof at = length proof₀ - at
 
 pub each-byte-spec : {M : Type 1} → statement M
 each-byte-spec =
@@ -17,15 +19,13 @@ each-byte-spec =
     Inv-loop
     μ-loop
     (λ c. search needs)
-    (λ c κs. search needs)
-    (λ c κs. search needs)
     (λ c. search needs)
     (λ c κs. search needs)
-    (λ c. search needs)
     (λ c. search needs)
     (λ c κs. search needs)
     (λ c. search needs)
     (λ c. search needs)
     (λ c. search needs)
-    (λ c κs. search needs)
+    (λ c. search needs)
+    (λ c. search needs)
     (λ c. search needs))

@@ -1,0 +1,63 @@
+// The table of cases. A case is a line with a word that says what is tried, and figures in the order that the function for it names. What is
+// printed before its answer stands in the last line above that begins with `>`: words, with `#` for each figure in order (print.rt); figures
+// that are left over are not printed. Every other line is passed over: an empty one, and one behind `#`, which says what the lines below it try.
+use crate::damage;
+use crate::print::print;
+use crate::refusal;
+use crate::roundtrip;
+use crate::sweep;
+use forms::bytes::byte_at;
+use text::figures::put_figures;
+use text::part::between;
+use text::part::find;
+
+// The most figures of a line.
+pub const FIGURES: usize = 9;
+
+// The figures of a case, 0 where there is none.
+fn figures(line: &[u8]) -> [u32; FIGURES] {
+    let space = find(line, 0, b' ');
+    let mut figures = [0u32; FIGURES];
+    put_figures(between(line, space, line.len()), &mut figures);
+    figures
+}
+
+// A word is known by its first letter. One that is none of these shows in the output: it has words and no answer.
+fn case(word: u8, figures: [u32; FIGURES], entries: &[u8]) {
+    match word {
+        b'w' => roundtrip::case(figures, entries),
+        b'g' => refusal::case(figures, entries),
+        b'r' => damage::case(figures, entries),
+        b'b' => sweep::bytes(figures, entries),
+        b'l' => sweep::lengths(figures, entries),
+        _ => (),
+    }
+}
+
+// Prints the words with the figures of a line in them, and runs the line's case.
+fn row(words: &[u8], line: &[u8], entries: &[u8]) {
+    let word = byte_at(line, 0);
+    if word < b'a' {
+        return;
+    }
+    let figures = figures(line);
+    print(between(words, 2, words.len()), &figures);
+    case(word, figures, entries);
+}
+
+pub(crate) fn run(text: &[u8], entries: &[u8]) {
+    let mut words: usize = 0;
+    let mut from: usize = 0;
+    while from < text.len() {
+        let end = find(text, from, b'\n');
+        if byte_at(text, from) == b'>' {
+            words = from;
+        }
+        row(
+            between(text, words, find(text, words, b'\n')),
+            between(text, from, end),
+            entries,
+        );
+        from = end + 1;
+    }
+}
