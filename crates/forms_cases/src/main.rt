@@ -2,7 +2,6 @@
 // calculated from the document's tables and not by this program.
 mod damage;
 mod fields;
-mod part;
 mod print;
 mod refusal;
 mod roundtrip;

@@ -1,10 +1,10 @@
 // Fields that writing refuses, and the output that it keeps; and outputs that the proof just fits.
-use crate::part::least;
 use crate::sample;
 use crate::table::FIGURES;
 use text::checksum::checksum;
 use text::line;
 use text::part::front;
+use text::part::least;
 use validity::writing::write;
 
 // Prints number and value, and the output before and after.

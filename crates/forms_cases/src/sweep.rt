@@ -1,11 +1,11 @@
 // A valid proof with one entry, damaged at each byte or cut at each length, and the numbers with which reading refuses it.
 use crate::damage::judge;
 use crate::damage::put_valid;
-use crate::part::least;
 use crate::sample;
 use crate::table::FIGURES;
 use text::line;
 use text::part::front;
+use text::part::least;
 
 // Each byte in turn is one more.
 fn each_byte(proof: &mut [u8]) {

@@ -2,13 +2,13 @@
 // output where the call has one.
 use crate::call;
 use crate::call::Call;
-use crate::part::least;
 use forms::bytes::byte_at;
 use host::answer::Figures;
 use text::checksum::checksum;
 use text::line;
 use text::part::between;
 use text::part::find;
+use text::part::least;
 use validity::proof::Proof;
 
 // What every byte of the output is before a call.

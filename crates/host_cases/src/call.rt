@@ -1,6 +1,5 @@
 // A line's word and figures, and the host's call that they stand for.
 use crate::many;
-use crate::part::least;
 use forms::bytes::byte_at;
 use forms::confirmation::Confirmation;
 use forms::nonce::LEN;
@@ -19,6 +18,7 @@ use text::figures::put_figures;
 use text::part::between;
 use text::part::find;
 use text::part::front;
+use text::part::least;
 
 const FIGURES: usize = 5;
 

@@ -4,7 +4,6 @@
 mod answer;
 mod call;
 mod many;
-mod part;
 mod table;
 
 use forms::image::Image;

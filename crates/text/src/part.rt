@@ -1,8 +1,15 @@
-// Parts of a slice of bytes, and the place of a byte in it.
+// Parts of a slice of bytes, the place of a byte in it, and the lesser of two lengths.
 ghost use mathlib.Core.Path.{_≡_};
-ghost use Prim.Native.Nat.{_≤_, max};
+ghost use Prim.Native.Nat.{_≤_, min, max};
 ghost use lib.ListN.{length, take};
 ghost use Rattle.text.specs.Text.{between, firstPlace};
+
+// The lesser of two lengths.
+pub fn least(a: usize, b: usize) -> usize
+    ensures { λ r. ⌜ r ≡ min a b ⌝ }
+{
+    if a < b { a } else { b }
+}
 
 // The first bytes, or all where there are no more.
 pub fn front(s: &[u8], len: usize) -> &[u8]
