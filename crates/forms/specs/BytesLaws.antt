@@ -1,7 +1,7 @@
 -- Laws of parts of bytes, of storing over them and of comparing them. Assumes nothing.
 use mathlib.Core.Path.{_≡_, refl, sym, ap, ap₂, _∙_, subst}
 use Prim.Native.Nat.{ℕ, zero, suc, _+_, _≤_, _<_}
-use native.Mathlib.Nat.{zero-add, add-zero, add-suc, suc-add, add-assoc, le-of-suc-le-suc, not-suc-le-zero}
+use native.Mathlib.Nat.{zero-add, add-zero, add-suc, suc-add, add-assoc}
 use native.Mathlib.Omega.{arith}
 use mathlib.Core.Bool.{Bool, true, false, cond, _&&_, false≢true}
 use mathlib.Core.List.{List, [], _∷_, _++_, append-assoc}
@@ -27,14 +27,6 @@ window-part s k (suc n) h =
     let below : k < length s = omega arith in
     let rest : suc k + n ≤ length s = omega arith in
     ap (λ (l : List ℕ). getD s k 0 ∷ l) (window-part s (suc k) n rest) ∙ sym (ap (λ (l : List ℕ). take (suc n) l) (drop-cons s k 0 below))
-
--- a byte of a window
-pub getD-window : (s : List ℕ) (k n i : ℕ) → i < n → getD (window s k n) i 0 ≡ getD s (k + i) 0
-unfolding window
-getD-window s k zero i h = absurd (not-suc-le-zero h)
-getD-window s k (suc n) zero h = ap (λ (j : ℕ). getD s j 0) (sym (add-zero k))
-getD-window s k (suc n) (suc i) h =
-    getD-window s (suc k) n i (le-of-suc-le-suc h) ∙ ap (λ (j : ℕ). getD s j 0) (suc-add k i ∙ sym (add-suc k i))
 
 -- a window that goes one byte further
 pub window-snoc : (s : List ℕ) (k n : ℕ) → window s k (suc n) ≡ window s k n ++ (getD s (k + n) 0 ∷ [])
