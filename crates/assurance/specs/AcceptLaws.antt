@@ -22,7 +22,7 @@ use Rattle.validity.specs.Proof.{Fields, read, increment, encode, decode, heade
 use Rattle.validity.specs.RoundTrip.{Taken, Takes, decode-encode, encode-reads}
 use Rattle.validity.specs.declared.proof.Kind.{Kind}
 use Rattle.validity.specs.declared.proof.Parsed.{Parsed}
-use Rattle.image.specs.Sound.{consecutive}
+use Rattle.log_image.specs.Sound.{consecutive}
 use Rattle.desk.specs.declared.answer.Answer.{Answer}
 use Rattle.desk.specs.Desk.{confirmation, certificate, entry, verdictsBefore, badWanted, closesElsewhere, wrongClosing, closing, verified}
 use Rattle.assurance.specs.AcceptRows.{ones, Clean, clean-verified}

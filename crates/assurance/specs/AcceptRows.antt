@@ -20,7 +20,7 @@ use Rattle.validity.specs.Proof.{parsed, logOffset}
 use Rattle.validity.specs.declared.proof.Kind.{Kind}
 use Rattle.validity.specs.declared.proof.Parsed.{Parsed}
 use Rattle.validity.specs.declared.proof.Proof.{Proof}
-use Rattle.image.specs.Sound.{consecutive}
+use Rattle.log_image.specs.Sound.{consecutive}
 use Rattle.desk.specs.declared.answer.Answer.{Answer}
 use Rattle.desk.specs.Desk.{confirmation, entry, verdictsBefore, verdictCount, zeroOrOne, badWanted, badVerdicts, badConfirmation, certificateDenied, moduleDenied, closesElsewhere, wrongReading, wrongClosing, ownerDenied, breaksChain, laterChecks, accepted, judged, verified}
 use Rattle.desk.specs.DeskLaws.{answerOf, verified-parsed}

@@ -10,9 +10,9 @@ use Rattle.forms.specs.TestsLaws.{both}
 use Rattle.forms.specs.declared.terms.CounterId.{CounterId}
 use Rattle.forms.specs.declared.terms.GlobalClock.{GlobalClock}
 use Rattle.validity.specs.Proof.{encode, proofLen, shapeOf}
-use Rattle.image.specs.ImageRoundTrip.{StateFits, decode-fits}
-use Rattle.image.specs.State.{State, decode}
-use Rattle.image.specs.Sound.{holds, laidOut, soundState, sound}
+use Rattle.log_image.specs.ImageRoundTrip.{StateFits, decode-fits}
+use Rattle.log_image.specs.State.{State, decode}
+use Rattle.log_image.specs.Sound.{holds, laidOut, soundState, sound}
 use Rattle.desk.specs.declared.answer.Answer.{Answer}
 use Rattle.desk.specs.Desk.{allYes, verified}
 use Rattle.host.specs.Host.{requestNonce, currentOf, proofOf, lastOf, proveRefusal, lastRefusal, readRefusal, counted, readCall, proveCall, lastCall}

@@ -11,7 +11,7 @@ use Rattle.forms.specs.declared.confirmation.Confirmation.{Confirmation}
 use Rattle.forms.specs.declared.terms.CounterId.{CounterId}
 use Rattle.forms.specs.declared.terms.GlobalClock.{GlobalClock}
 use Rattle.validity.specs.Proof.{Fields, encode}
-use Rattle.image.specs.State.{decode}
+use Rattle.log_image.specs.State.{decode}
 use Rattle.desk.specs.Answer.{figures}
 use Rattle.desk.specs.Desk.{allYes, verified}
 use Rattle.host.specs.Host.{requestNonce, Settled, startCall, openCall, tickCall, incrementCall, readCall, proveCall, lastCall, confirmCall, proofOf, lastOf, proveOutput, lastOutput}

@@ -17,10 +17,10 @@ use Rattle.forms.specs.declared.event.Carried.{Carried}
 use Rattle.forms.specs.declared.terms.CounterId.{CounterId}
 use Rattle.forms.specs.declared.terms.GlobalClock.{GlobalClock}
 use Rattle.validity.specs.Proof.{shapeOf, proofLen}
-use Rattle.image.specs.FitLaws.{start-fits, append-entry-fits, store-written-fits, append-record-fits}
-use Rattle.image.specs.ImageRoundTrip.{StateFits, decode-encode, encode-sound}
-use Rattle.image.specs.Sound.{holds, oldest, after, current, soundState}
-use Rattle.image.specs.State.{State, decode, encode}
+use Rattle.log_image.specs.FitLaws.{start-fits, append-entry-fits, store-written-fits, append-record-fits}
+use Rattle.log_image.specs.ImageRoundTrip.{StateFits, decode-encode, encode-sound}
+use Rattle.log_image.specs.Sound.{holds, oldest, after, current, soundState}
+use Rattle.log_image.specs.State.{State, decode, encode}
 use Rattle.host.specs.Host.{requestNonce, Settled, recordOf, currentOf, hasEntry, openRefusal, incrementRefusal, readRefusal, started, opened, raised, counted, proofOf, lastOf, settled, answered, startCall, openCall, incrementCall, readCall, proveCall, lastCall, proveOutput, lastOutput, proveRefusal, lastRefusal}
 use Rattle.host.specs.OpenLaws.{opened-sound}
 use Rattle.host.specs.RaiseLaws.{started-sound, counted-sound, incremented-sound}

@@ -18,9 +18,9 @@ use Rattle.forms.specs.declared.confirmation.Confirmation.{Confirmation}
 use Rattle.forms.specs.declared.terms.CounterId.{CounterId}
 use Rattle.forms.specs.declared.terms.GlobalClock.{GlobalClock}
 use Rattle.validity.specs.Proof.{Fields, read, increment, shapeOf, proofLen, headerOf, headerBytes, encode}
-use Rattle.image.specs.ImageRoundTrip.{decode-fits, sound-laid-out}
-use Rattle.image.specs.Sound.{base, after}
-use Rattle.image.specs.State.{State, decode}
+use Rattle.log_image.specs.ImageRoundTrip.{decode-fits, sound-laid-out}
+use Rattle.log_image.specs.Sound.{base, after}
+use Rattle.log_image.specs.State.{State, decode}
 use Rattle.desk.specs.Answer.{figures}
 use Rattle.desk.specs.Desk.{allYes, verified}
 use Rattle.desk.specs.declared.answer.Answer.{Answer}

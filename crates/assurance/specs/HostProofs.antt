@@ -20,10 +20,10 @@ use Rattle.forms.specs.declared.entry.Entry.{Entry}
 use Rattle.forms.specs.declared.terms.CounterId.{CounterId}
 use Rattle.forms.specs.declared.terms.GlobalClock.{GlobalClock}
 use Rattle.validity.specs.Proof.{encode}
-use Rattle.image.specs.ImageRoundTrip.{StateFits}
-use Rattle.image.specs.State.{Record, State}
-use Rattle.image.specs.Sound.{holds, distinct, bounded, oldest, consecutive, base, spanned, named, after, chained, current, soundState}
-use Rattle.image.specs.LookupLaws.{zero-unheld}
+use Rattle.log_image.specs.ImageRoundTrip.{StateFits}
+use Rattle.log_image.specs.State.{Record, State}
+use Rattle.log_image.specs.Sound.{holds, distinct, bounded, oldest, consecutive, base, spanned, named, after, chained, current, soundState}
+use Rattle.log_image.specs.LookupLaws.{zero-unheld}
 use Rattle.desk.specs.declared.answer.Answer.{Answer}
 use Rattle.desk.specs.Desk.{allYes, verified}
 use Rattle.host.specs.LastLaws.{consecutive-drop}

@@ -20,11 +20,11 @@ use Rattle.forms.specs.declared.event.Carried.{Carried}
 use Rattle.forms.specs.declared.terms.CounterId.{CounterId}
 use Rattle.forms.specs.declared.terms.GlobalClock.{GlobalClock}
 use Rattle.validity.specs.Proof.{shapeOf, proofLen}
-use Rattle.image.specs.FitLaws.{start-fits, append-entry-fits, store-clock-fits, store-written-fits, append-record-fits, drop-entries-fits}
-use Rattle.image.specs.ImageParts.{RecordsFit}
-use Rattle.image.specs.ImageRoundTrip.{StateFits, length-encode, encode-bytes, encode-sound, decode-fits, sound-decode, sound-laid-out}
-use Rattle.image.specs.Sound.{oldest, base, soundState, sound}
-use Rattle.image.specs.State.{Record, State, decode, encode}
+use Rattle.log_image.specs.FitLaws.{start-fits, append-entry-fits, store-clock-fits, store-written-fits, append-record-fits, drop-entries-fits}
+use Rattle.log_image.specs.ImageParts.{RecordsFit}
+use Rattle.log_image.specs.ImageRoundTrip.{StateFits, length-encode, encode-bytes, encode-sound, decode-fits, sound-decode, sound-laid-out}
+use Rattle.log_image.specs.Sound.{oldest, base, soundState, sound}
+use Rattle.log_image.specs.State.{Record, State, decode, encode}
 use Rattle.host.specs.ConfirmLaws.{confirmed-sound}
 use Rattle.host.specs.EffectLaws.{clock-runs, entry-room, record-room}
 use Rattle.host.specs.Host.{Settled, openRefusal, tickRefusal, incrementRefusal, confirmRefusal, openRows, tickRows, incrementRows, readRows, proveRows, lastRows, confirmRows, started, opened, raised, noneHeld, advanced, ticked, counted, replaced, confirmedState, settled, startCall, readRefusal, currentOf, proofOf, lastOf, proveRefusal, lastRefusal, readCall}

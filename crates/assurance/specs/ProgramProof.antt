@@ -12,7 +12,7 @@ use Rattle.forms.specs.Limits.{imageLen}
 use Rattle.forms.specs.declared.terms.CounterId.{CounterId}
 use Rattle.forms.specs.declared.terms.GlobalClock.{GlobalClock}
 use Rattle.validity.specs.Proof.{Fields}
-use Rattle.image.specs.State.{decode}
+use Rattle.log_image.specs.State.{decode}
 use Rattle.desk.specs.Answer.{figures}
 use Rattle.desk.specs.Desk.{allYes, verified}
 use Rattle.desk.specs.declared.answer.Figures.{Figures as DeskFigures}

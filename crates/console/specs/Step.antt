@@ -8,7 +8,7 @@ use lib.ListN.{length, take, replicate}
 use Rattle.forms.specs.Limits.{nonceLen, maxProofLen}
 use Rattle.forms.specs.declared.terms.CounterId.{CounterId}
 use Rattle.validity.specs.Proof.{Fields}
-use Rattle.image.specs.State.{decode}
+use Rattle.log_image.specs.State.{decode}
 use Rattle.desk.specs.Answer.{figures}
 use Rattle.desk.specs.Desk.{allYes, verified}
 use Rattle.desk.specs.declared.answer.Answer.{Answer}

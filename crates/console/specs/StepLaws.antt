@@ -17,9 +17,9 @@ use Rattle.forms.specs.declared.terms.GlobalClock.{GlobalClock}
 use Rattle.validity.specs.Proof.{Fields, logOffset, proofLen, shapeOf}
 use Rattle.validity.specs.declared.proof.Kind.{Kind}
 use Rattle.validity.specs.declared.proof.Proof.{Proof}
-use Rattle.image.specs.LogLaws.{entries-first}
-use Rattle.image.specs.Sound.{base, after}
-use Rattle.image.specs.State.{State, decode, entryCount}
+use Rattle.log_image.specs.LogLaws.{entries-first}
+use Rattle.log_image.specs.Sound.{base, after}
+use Rattle.log_image.specs.State.{State, decode, entryCount}
 use Rattle.desk.specs.Desk.{verdictsBefore, verdictCount, allYes, verified}
 use Rattle.host.specs.DoneLaws.{settled-passed, value-given}
 use Rattle.host.specs.Host.{hasEntry, requestNonce, heldOf, proofOf, lastOf, proveRefusal, lastRefusal, counted, proveCall, lastCall, proveOutput, lastOutput}

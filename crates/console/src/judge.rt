@@ -9,7 +9,7 @@ use forms::terms::GlobalClock;
 use host::answer::Figures;
 use host::last::last;
 use host::prove::prove;
-use image::header::entry_count;
+use log_image::header::entry_count;
 use text::part::front;
 use validity::proof::Kind;
 use validity::proof::Proof;

@@ -2,9 +2,9 @@
 use crate::module;
 use crate::tally;
 use forms::bytes::wide;
-use image::header::counter_count;
-use image::header::entry_count;
-use image::header::proofs_written;
+use log_image::header::counter_count;
+use log_image::header::entry_count;
+use log_image::header::proofs_written;
 use text::line;
 
 fn labelled(label: &[u8], number: u32) {

@@ -7,7 +7,7 @@ use forms::nonce::Nonce;
 use forms::number::get_u32;
 use forms::number::put_u32;
 use host::answer::Figures;
-use image::header::entry_count;
+use log_image::header::entry_count;
 
 const NUMBERS: usize = 64;
 

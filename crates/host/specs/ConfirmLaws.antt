@@ -9,9 +9,9 @@ use lib.ListN.{drop, length-drop}
 use Rattle.forms.specs.Chain.{chains}
 use Rattle.forms.specs.declared.confirmation.Confirmation.{Confirmation}
 use Rattle.forms.specs.declared.entry.Entry.{Entry}
-use Rattle.image.specs.State.{Record, State}
-use Rattle.image.specs.Sound.{oldest, base, consecutive, after, soundState}
-use Rattle.image.specs.RecordsLaws.{oldest-clock}
+use Rattle.log_image.specs.State.{Record, State}
+use Rattle.log_image.specs.Sound.{oldest, base, consecutive, after, soundState}
+use Rattle.log_image.specs.RecordsLaws.{oldest-clock}
 use Rattle.host.specs.Host.{replaced, confirmedState, confirmRefusal}
 use Rattle.host.specs.HeldLaws.{later-chains}
 use Rattle.host.specs.LogEndsLaws.{consecutive-drop, named-drop, named-wider, after-cut}

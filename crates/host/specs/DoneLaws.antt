@@ -6,8 +6,8 @@ use mathlib.Core.List.{List}
 use native.Mathlib.Omega.{arith}
 use lib.Dec.{eqb}
 use borrow.Author.Tests.{eqb-true, eqb-false}
-use Rattle.image.specs.Sound.{sound}
-use Rattle.image.specs.State.{State}
+use Rattle.log_image.specs.Sound.{sound}
+use Rattle.log_image.specs.State.{State}
 use Rattle.host.specs.declared.answer.Figures.{Figures}
 use Rattle.host.specs.Host.{Settled, answered, settled}
 use Rattle.host.specs.SettledLaws.{settled-done}

@@ -13,9 +13,9 @@ use Rattle.forms.specs.declared.confirmation.Confirmation.{Confirmation}
 use Rattle.forms.specs.declared.terms.CounterId.{CounterId}
 use Rattle.forms.specs.declared.terms.GlobalClock.{GlobalClock}
 use Rattle.forms.specs.TestsLaws.{neither}
-use Rattle.image.specs.State.{Record}
-use Rattle.image.specs.Sound.{holds, distinct, oldest}
-use Rattle.image.specs.PassLaws.{distinct-parts, nonzero}
+use Rattle.log_image.specs.State.{Record}
+use Rattle.log_image.specs.Sound.{holds, distinct, oldest}
+use Rattle.log_image.specs.PassLaws.{distinct-parts, nonzero}
 use Rattle.host.specs.Host.{recordOf, replaced}
 
 -- something holds of every record of a list

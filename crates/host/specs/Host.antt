@@ -16,8 +16,8 @@ use Rattle.forms.specs.declared.event.Carried.{Carried}
 use Rattle.forms.specs.declared.terms.CounterId.{CounterId}
 use Rattle.forms.specs.declared.terms.GlobalClock.{GlobalClock}
 use Rattle.validity.specs.Proof.{Fields, read, increment, shapeOf, proofLen, encode as proofBytes}
-use Rattle.image.specs.State.{Record, State, decode, encode}
-use Rattle.image.specs.Sound.{holds, oldest, base, after, current, sound}
+use Rattle.log_image.specs.State.{Record, State, decode, encode}
+use Rattle.log_image.specs.Sound.{holds, oldest, base, after, current, sound}
 pub use Rattle.host.specs.declared.answer.Figures.{Figures}
 
 -- ---- what a state says of a counter

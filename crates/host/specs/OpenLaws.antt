@@ -15,8 +15,8 @@ use Rattle.forms.specs.TermsLaws.{same-id}
 use Rattle.forms.specs.declared.confirmation.Confirmation.{Confirmation}
 use Rattle.forms.specs.declared.entry.Entry.{Entry}
 use Rattle.forms.specs.declared.terms.CounterId.{CounterId}
-use Rattle.image.specs.State.{Record, State}
-use Rattle.image.specs.Sound.{holds, base, consecutive, namesHeld, named, after, soundState}
+use Rattle.log_image.specs.State.{Record, State}
+use Rattle.log_image.specs.Sound.{holds, base, consecutive, namesHeld, named, after, soundState}
 use Rattle.host.specs.Host.{opened, openRefusal}
 use Rattle.host.specs.LogEndsLaws.{named-drop, named-wider}
 use Rattle.host.specs.EachRecordLaws.{Each, each-snoc, holds-snoc, distinct-snoc, oldest-snoc}

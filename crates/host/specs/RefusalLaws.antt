@@ -12,8 +12,8 @@ use Rattle.forms.specs.declared.confirmation.Confirmation.{Confirmation}
 use Rattle.forms.specs.declared.terms.CounterId.{CounterId}
 use Rattle.forms.specs.declared.terms.GlobalClock.{GlobalClock}
 use Rattle.forms.specs.TestsLaws.{neither}
-use Rattle.image.specs.State.{State}
-use Rattle.image.specs.Sound.{holds}
+use Rattle.log_image.specs.State.{State}
+use Rattle.log_image.specs.Sound.{holds}
 use Rattle.host.specs.Host.{heldOf, currentOf, valueAt, openRefusal, tickRefusal, incrementRefusal, confirmRefusal, proveRefusal, lastRefusal, hasEntry, entriesOf}
 
 -- where a table gives 0, a first row with another number was passed over, and the rest gives 0

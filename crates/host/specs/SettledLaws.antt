@@ -8,8 +8,8 @@ use lib.Dec.{eqb}
 use borrow.Author.Tests.{eq-eqb, ne-eqb}
 use lib.ListN.{drop}
 use Rattle.validity.specs.Proof.{Fields, shapeOf, proofLen, encode as proofBytes}
-use Rattle.image.specs.State.{State, encode}
-use Rattle.image.specs.Sound.{sound}
+use Rattle.log_image.specs.State.{State, encode}
+use Rattle.log_image.specs.Sound.{sound}
 use Rattle.host.specs.declared.answer.Figures.{Figures}
 use Rattle.host.specs.Host.{Settled, answered, settled, outputFor}
 

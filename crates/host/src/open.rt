@@ -6,19 +6,19 @@ use crate::refusal::bad_opening;
 use forms::confirmation::Confirmation;
 use forms::image::Image;
 use forms::number::put_u32;
-use image::header;
-use image::header::clock;
-use image::header::counter_count;
-use image::header::entry_count;
-use image::header::table_full;
-use image::soundness::sound;
+use log_image::header;
+use log_image::header::clock;
+use log_image::header::counter_count;
+use log_image::header::entry_count;
+use log_image::header::table_full;
+use log_image::soundness::sound;
 ghost use mathlib.Core.Path.{_≡_};
 ghost use mathlib.Core.Bool.{true};
 ghost use Prim.Native.Nat.{_+_, _<_};
 ghost use lib.ListN.{length};
 ghost use Rattle.forms.specs.Limits.{maxCounters};
-ghost use Rattle.image.specs.Sound.{sound};
-ghost use Rattle.image.specs.State.{decode, encode};
+ghost use Rattle.log_image.specs.Sound.{sound};
+ghost use Rattle.log_image.specs.State.{decode, encode};
 ghost use Rattle.host.specs.Host.{openCall, openRefusal, opened};
 
 // The number of the first refusal of an opening on a sound image, 0 where there is none.

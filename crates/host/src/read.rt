@@ -3,7 +3,7 @@ use crate::answer::Figures;
 use crate::counter::current_value;
 use crate::counter::is_held;
 use forms::terms::CounterId;
-use image::soundness::sound;
+use log_image::soundness::sound;
 ghost use mathlib.Core.Path.{_≡_};
 ghost use Rattle.host.specs.Host.{readCall};
 

@@ -5,7 +5,7 @@ use native.Mathlib.Omega.{arith}
 use borrow.Author.Needs.{needs}
 use Rattle.forms.specs.Entry.{entriesAt}
 use Rattle.forms.specs.Limits.{imageLogOffset}
-use Rattle.image.specs.State.{decode}
+use Rattle.log_image.specs.State.{decode}
 use Rattle.console.specs.StepLaws.{FoundNonce}
 use Rattle.console.proofs.judge.request_nonce.Statement.{statement}
 use Rattle.console.proofs.judge.request_nonce.Tie as tie

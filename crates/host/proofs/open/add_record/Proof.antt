@@ -9,8 +9,8 @@ use Rattle.forms.specs.Bytes.{Bytes, overwrite}
 use Rattle.forms.specs.Confirmation.{confirmationBytes}
 use Rattle.forms.specs.Limits.{recordsOffset, recordLen}
 use Rattle.forms.specs.Number.{digits}
-use Rattle.image.specs.State.{decode}
-use Rattle.image.specs.DecodeLaws.{count-counters}
+use Rattle.log_image.specs.State.{decode}
+use Rattle.log_image.specs.DecodeLaws.{count-counters}
 use Rattle.host.specs.EffectLaws.{opening-stored}
 use Rattle.host.proofs.open.add_record.Statement.{statement}
 use Rattle.host.proofs.open.add_record.Tie as tie

@@ -8,8 +8,8 @@ use borrow.Author.Tests.{not-true, not-false}
 use lib.ListN.{length}
 use Rattle.forms.specs.Bytes.{Bytes}
 use Rattle.forms.specs.Limits.{maxCounters}
-use Rattle.image.specs.Sound.{sound}
-use Rattle.image.specs.State.{State, decode}
+use Rattle.log_image.specs.Sound.{sound}
+use Rattle.log_image.specs.State.{State, decode}
 use Rattle.host.specs.EffectLaws.{record-room}
 use Rattle.host.specs.Host.{openRefusal, opened}
 use Rattle.host.specs.RefusalLaws.{open-passed}

@@ -10,8 +10,8 @@ use lib.ListN.{drop, length}
 use Rattle.forms.specs.Checks.{firstOf}
 use Rattle.forms.specs.declared.terms.GlobalClock.{GlobalClock}
 use Rattle.forms.specs.ChecksLaws.{passed, given}
-use Rattle.image.specs.State.{State, decode}
-use Rattle.image.specs.DecodeLaws.{count-entries}
+use Rattle.log_image.specs.State.{State, decode}
+use Rattle.log_image.specs.DecodeLaws.{count-entries}
 use Rattle.host.specs.Host.{openRows}
 use Rattle.host.specs.IndexLaws.{bytes-sound}
 use Rattle.host.proofs.open.open_refusal.Statement.{statement}

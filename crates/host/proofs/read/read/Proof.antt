@@ -8,8 +8,8 @@ use borrow.Author.Tests.{eq-eqb, ne-eqb, not-true, not-false}
 use lib.ListN.{drop}
 use Rattle.forms.specs.Checks.{firstOf}
 use Rattle.forms.specs.ChecksLaws.{passed, given}
-use Rattle.image.specs.State.{State, decode}
-use Rattle.image.specs.Sound.{sound, holds}
+use Rattle.log_image.specs.State.{State, decode}
+use Rattle.log_image.specs.Sound.{sound, holds}
 use Rattle.host.specs.Host.{answered, readRows, readRefusal, currentOf}
 use Rattle.host.specs.SettledLaws.{answered-unsound, answered-refused, answered-done}
 use Rattle.host.proofs.read.read.Statement.{statement}

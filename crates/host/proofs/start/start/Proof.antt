@@ -8,7 +8,7 @@ use borrow.Author.Tests.{eq-eqb, ne-eqb}
 use lib.ListN.{length}
 use Rattle.forms.specs.Bytes.{overwrite}
 use Rattle.forms.specs.Limits.{imageLen}
-use Rattle.image.specs.State.{headerOf, encode}
+use Rattle.log_image.specs.State.{headerOf, encode}
 use Rattle.host.specs.Host.{Settled, started, startCall}
 use Rattle.host.specs.StartLaws.{start-stored}
 use Rattle.host.proofs.start.start.Statement.{statement}
