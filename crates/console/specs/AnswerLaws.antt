@@ -7,8 +7,8 @@ use lib.ListN.{length, length-append}
 use Rattle.forms.specs.Bytes.{overwrite}
 use Rattle.forms.specs.BytesLaws.{stored-next}
 use Rattle.host.specs.declared.answer.Figures.{Figures}
-use Rattle.grammar.specs.Numeral.{numeral}
-use Rattle.grammar.specs.NumeralLaws.{length-numeral}
+use Rattle.text.specs.Line.{numeral}
+use Rattle.text.specs.LineLaws.{length-numeral}
 use Rattle.console.specs.Step.{answerText, maxAnswer}
 
 module _ (f : Figures) where

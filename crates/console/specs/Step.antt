@@ -15,7 +15,7 @@ use Rattle.desk.specs.declared.answer.Answer.{Answer}
 use Rattle.host.specs.Host.{Settled, startCall, openCall, tickCall, incrementCall, readCall, proveCall, lastCall, confirmCall}
 use Rattle.host.specs.declared.answer.Figures.{Figures}
 use Rattle.host.specs.Host.{proofOf, lastOf, proveOutput, lastOutput, requestNonce}
-use Rattle.grammar.specs.Numeral.{numeral}
+use Rattle.text.specs.Line.{numeral}
 use Rattle.grammar.specs.declared.command.Command.{Command}
 
 -- "A byte b stands for a nonce of 20 bytes b"

@@ -2,38 +2,48 @@
 use crate::module;
 use crate::tally;
 use forms::bytes::wide;
+use libc::STDOUT_FILENO;
 use log_image::header::counter_count;
 use log_image::header::entry_count;
 use log_image::header::proofs_written;
-use text::line;
+use text::line::put_filled;
+use text::part::front;
 
-fn labelled(label: &[u8], number: u32) {
-    line::text(label);
-    line::figure(number);
+// Room for a printed line.
+const LINE_ROOM: usize = 128;
+
+// Prints words with figures in them.
+fn print(words: &[u8], figures: &[u32]) {
+    let mut line = [0u8; LINE_ROOM];
+    let end = put_filled(&mut line, 0, words, figures);
+    io::write_all(STDOUT_FILENO, front(&line, end));
 }
 
 // The clock is the history's: the host's is compared with it at every raise.
 pub(crate) fn day(day: u32, image: &[u8], books: &[u8]) {
-    labelled(b"day", day);
-    labelled(b": calls", tally::count(books, tally::CALLS));
-    labelled(b", clock", module::clock(books).0);
-    labelled(b", counters", counter_count(image));
-    labelled(b", entries", entry_count(image));
-    labelled(b", sum", tally::count(books, tally::SUM));
-    line::end();
+    let figures = [
+        day,
+        tally::count(books, tally::CALLS),
+        module::clock(books).0,
+        counter_count(image),
+        entry_count(image),
+        tally::count(books, tally::SUM),
+    ];
+    print(
+        b"day#: calls#, clock#, counters#, entries#, sum#\n",
+        &figures,
+    );
 }
 
-fn counted(label: &[u8], books: &[u8], what: usize) {
-    labelled(label, tally::count(books, what));
-    line::end();
+fn counted(words: &[u8], books: &[u8], what: usize) {
+    print(words, &[tally::count(books, what)]);
 }
 
 fn refusals(books: &[u8]) {
     let mut number: usize = 14;
     while number < 27 {
-        labelled(b"refused by", number as u32);
-        labelled(b":", tally::count(books, number));
-        line::end();
+        let count = tally::count(books, number);
+        print(b"refused by#:#\n", &[number as u32, count]);
         number += 1;
     }
 }
@@ -49,63 +59,67 @@ fn image_sum(image: &[u8]) -> u32 {
 }
 
 fn calls(books: &[u8]) {
-    counted(b"calls of the host:", books, tally::CALLS);
-    counted(b"openings:", books, tally::OPENINGS);
-    counted(b"ticks:", books, tally::TICKS);
-    counted(b"raises:", books, tally::RAISES);
+    counted(b"calls of the host:#\n", books, tally::CALLS);
+    counted(b"openings:#\n", books, tally::OPENINGS);
+    counted(b"ticks:#\n", books, tally::TICKS);
+    counted(b"raises:#\n", books, tally::RAISES);
     refusals(books);
     counted(
-        b"old values that tablets came with:",
+        b"old values that tablets came with:#\n",
         books,
         tally::OLD_VALUES,
     );
     counted(
-        b"of these held for a week or more:",
+        b"of these held for a week or more:#\n",
         books,
         tally::WEEK_OLD_VALUES,
     );
     counted(
-        b"confirmations on the day of their proof:",
+        b"confirmations on the day of their proof:#\n",
         books,
         tally::ON_TIME,
     );
-    counted(b"confirmations on a later day:", books, tally::LATE);
-    counted(b"the latest, in days:", books, tally::LATEST);
-    counted(b"most entries held:", books, tally::MOST_ENTRIES);
+    counted(b"confirmations on a later day:#\n", books, tally::LATE);
+    counted(b"the latest, in days:#\n", books, tally::LATEST);
+    counted(b"most entries held:#\n", books, tally::MOST_ENTRIES);
 }
 
 fn proofs(books: &[u8]) {
-    counted(b"proofs up to the clock:", books, tally::PROVED);
-    counted(b"proofs up to a raise:", books, tally::PROVED_LAST);
+    counted(b"proofs up to the clock:#\n", books, tally::PROVED);
+    counted(b"proofs up to a raise:#\n", books, tally::PROVED_LAST);
     counted(
-        b"of these up to an earlier raise than the last:",
+        b"of these up to an earlier raise than the last:#\n",
         books,
         tally::PROVED_EARLIER,
     );
-    counted(b"proofs that the desk accepts:", books, tally::ACCEPTED);
-    counted(b"proofs that the desk refuses:", books, tally::DESK_REFUSES);
+    counted(b"proofs that the desk accepts:#\n", books, tally::ACCEPTED);
     counted(
-        b"values shown that are not the history's:",
+        b"proofs that the desk refuses:#\n",
+        books,
+        tally::DESK_REFUSES,
+    );
+    counted(
+        b"values shown that are not the history's:#\n",
         books,
         tally::VALUE_DIFFERS,
     );
     counted(
-        b"values shown that are not the host's:",
+        b"values shown that are not the host's:#\n",
         books,
         tally::HOST_DIFFERS,
     );
     counted(
-        b"closing readings that are not those asked for:",
+        b"closing readings that are not those asked for:#\n",
         books,
         tally::CLOSING_DIFFERS,
     );
     counted(
-        b"values read that are not the history's:",
+        b"values read that are not the history's:#\n",
         books,
         tally::READ_DIFFERS,
     );
     counted(
-        b"clock readings that are not the history's:",
+        b"clock readings that are not the history's:#\n",
         books,
         tally::CLOCK_DIFFERS,
     );
@@ -114,8 +128,9 @@ fn proofs(books: &[u8]) {
 pub(crate) fn month(image: &[u8], books: &[u8]) {
     calls(books);
     proofs(books);
-    labelled(b"proofs written, by the image:", proofs_written(image));
-    line::end();
-    labelled(b"sum of the image:", image_sum(image));
-    line::end();
+    print(
+        b"proofs written, by the image:#\n",
+        &[proofs_written(image)],
+    );
+    print(b"sum of the image:#\n", &[image_sum(image)]);
 }

@@ -11,7 +11,9 @@ use forms::nonce::LEN;
 use forms::number::put_u32;
 use forms::terms::CounterId;
 use forms::terms::GlobalClock;
-use text::line;
+use libc::STDOUT_FILENO;
+use text::line::put_filled;
+use text::line::put_words;
 use text::part::front;
 use validity::proof::Proof;
 use validity::writing::write;
@@ -26,10 +28,15 @@ const NONCE_ROOM: usize = LEN + 1;
 // Room for the longest proof and a byte behind it.
 const PROOF_ROOM: usize = Proof::MAX_LEN + 1;
 
-const ENTRIES_ROOM: usize = Entry::LEN * (Proof::MAX_ENTRIES as usize);
+// Room for the entries of a line's log, and for its verdicts.
+pub const LOG_ROOM: usize = 16;
 
-// Room for the verdicts on the longest proof.
-const VERDICTS_ROOM: usize = 2 + 2 * (Proof::MAX_ENTRIES as usize);
+const ENTRIES_ROOM: usize = Entry::LEN * LOG_ROOM;
+
+const VERDICTS_ROOM: usize = 64;
+
+// Room for a printed line.
+const LINE_ROOM: usize = 256;
 
 // A verdict from its digit.
 fn verdict(digit: u8) -> u8 {
@@ -46,7 +53,7 @@ fn put_verdicts(digits: &[u8], verdicts: &mut [u8]) {
     }
 }
 
-fn entry(reading: u32, nonce: u32, id: u32, before: u32) -> Entry {
+pub(crate) fn entry(reading: u32, nonce: u32, id: u32, before: u32) -> Entry {
     Entry::new(
         GlobalClock(reading),
         Carried::Request(CounterId(id), before),
@@ -65,14 +72,12 @@ fn put_entries(log: &[u32], entries: &mut [u8]) {
     }
 }
 
-fn print(label: &[u8], figures: Figures) {
-    line::text(label);
-    line::text(b":");
-    line::figure(figures.number);
-    line::figure(figures.value);
-    line::figure(figures.closing);
-    line::figure(figures.place);
-    line::end();
+fn print(label: &[u8], shown: Figures) {
+    let mut line = [0u8; LINE_ROOM];
+    let figures = [shown.number, shown.value, shown.closing, shown.place];
+    let mut end = put_words(&mut line, 0, label);
+    end = put_filled(&mut line, end, b":####\n", &figures);
+    io::write_all(STDOUT_FILENO, front(&line, end));
 }
 
 // Writes the proof and changes it.
@@ -98,40 +103,25 @@ fn asked(label: &[u8], case: Case, proof: &[u8], verdicts: &[u8]) {
     print(label, vmc_desk_verify(proof, verdicts, case.id, wanted));
 }
 
-fn given(
-    label: &[u8],
-    case: Case,
-    log: &[u32],
-    digits: &[u8],
-    entries: &mut [u8],
-    proof: &mut [u8],
-    verdicts: &mut [u8],
-) {
-    put_entries(log, entries);
-    put_verdicts(digits, verdicts);
-    let count = log.len() / FIGURES;
-    let bytes = front(entries, Entry::LEN * count);
-    let lent = put_proof(case, (count % 65536) as u32, bytes, proof);
-    asked(
-        label,
-        case,
-        front(proof, lent),
-        front(verdicts, digits.len()),
-    );
+// The desk's answer to the case with entries and verdicts.
+pub(crate) fn judged(label: &[u8], case: Case, entries: &[u8], verdicts: &[u8]) {
+    let mut proof = [0u8; PROOF_ROOM];
+    let count = entries.len() / Entry::LEN;
+    let lent = put_proof(case, (count % 65536) as u32, entries, &mut proof);
+    asked(label, case, front(&proof, lent), verdicts);
 }
 
-// The desk's answer to the case with a log and verdicts.
+// The same with the figures of a log and the digits of verdicts.
 pub(crate) fn case(label: &[u8], case: Case, log: &[u32], digits: &[u8]) {
     let mut entries = [0u8; ENTRIES_ROOM];
-    let mut proof = [0u8; PROOF_ROOM];
     let mut verdicts = [0u8; VERDICTS_ROOM];
-    given(
+    put_entries(log, &mut entries);
+    put_verdicts(digits, &mut verdicts);
+    let len = Entry::LEN * (log.len() / FIGURES);
+    judged(
         label,
         case,
-        log,
-        digits,
-        &mut entries,
-        &mut proof,
-        &mut verdicts,
+        front(&entries, len),
+        front(&verdicts, digits.len()),
     );
 }

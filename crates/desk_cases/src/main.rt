@@ -1,5 +1,5 @@
 // The desk's answers, one case a line: document 01's cases A to L, the vectors for the desk, cases in which several checks refuse at once,
-// and the longest proofs. The cases are lines of the input; the expected output is calculated from the document and not by this program.
+// and the longest proofs. All but the longest are lines of the input; the expected output is calculated from the document and not by this program.
 mod answer;
 mod case;
 mod long;

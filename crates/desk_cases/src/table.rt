@@ -1,15 +1,16 @@
 // The cases as lines of text: the label and a colon; the figures of the case, in the order of `Case`, the last ones left out where they are
 // not given; the verdicts as digits in brackets; and for each entry of the log its reading, nonce byte, counter and value before.
+use crate::answer;
 use crate::answer::case;
 use crate::case::Case;
 use crate::case::FIGURES;
 use crate::case::NOT_GIVEN;
-use text::figures::put_figures;
+use text::figures::read_figures;
 use text::part::between;
 use text::part::find;
 
 // Room for the figures of a log.
-const LOG_ROOM: usize = 64;
+const LOG_FIGURES: usize = answer::FIGURES * answer::LOG_ROOM;
 
 fn front(figures: &[u32], count: usize) -> &[u32] {
     if count < figures.len() {
@@ -27,8 +28,8 @@ fn read(
     figures: &mut [u32],
     entries: &mut [u32],
 ) {
-    put_figures(head, figures);
-    let count = put_figures(log, entries);
+    read_figures(head, figures);
+    let count = read_figures(log, entries);
     case(label, Case::of(figures), front(entries, count), digits);
 }
 
@@ -37,7 +38,7 @@ fn row(line: &[u8]) {
     let open = find(line, colon, b'[');
     let close = find(line, open, b']');
     let mut figures = [NOT_GIVEN; FIGURES];
-    let mut entries = [0u32; LOG_ROOM];
+    let mut entries = [0u32; LOG_FIGURES];
     read(
         between(line, 0, colon),
         between(line, colon + 1, open),

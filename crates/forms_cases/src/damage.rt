@@ -4,7 +4,8 @@ use crate::table::FIGURES;
 use forms::entry::Entry;
 use forms::number::put_u16;
 use forms::number::put_u32;
-use text::line;
+use text::line::put_figure;
+use text::line::put_words;
 use text::part::front;
 use validity::proof::parse;
 use validity::proof::parse_number;
@@ -22,9 +23,9 @@ pub(crate) fn put_valid(kind: u32, entries: &[u8], bytes: &mut [u8]) {
     );
 }
 
-// Prints the number for the bytes.
-pub(crate) fn judge(bytes: &[u8]) {
-    line::figure(parse_number(parse(bytes)));
+// Puts the number for the bytes into the text of a case.
+pub(crate) fn put_number(text: &mut [u8], at: usize, bytes: &[u8]) -> usize {
+    put_figure(text, at, parse_number(parse(bytes)))
 }
 
 // Stores form and kind in two bytes each, then length, offsets and entries in four.
@@ -40,10 +41,10 @@ fn put_header(figures: [u32; FIGURES], bytes: &mut [u8]) {
 
 // `read form kind length confirmation certificate log entries lent valid`: the valid proof of the last kind under a header of the first
 // seven figures, of which so many bytes are lent.
-pub(crate) fn case(figures: [u32; FIGURES], entries: &[u8]) {
+pub(crate) fn case(text: &mut [u8], at: usize, figures: [u32; FIGURES], entries: &[u8]) -> usize {
     let mut bytes = [sample::UNTOUCHED; sample::OUTPUT_LEN];
     put_valid(figures[8], entries, &mut bytes);
     put_header(figures, &mut bytes);
-    judge(front(&bytes, figures[7] as usize));
-    line::end();
+    let end = put_number(text, at, front(&bytes, figures[7] as usize));
+    put_words(text, end, b"\n")
 }

@@ -2,7 +2,6 @@
 // calculated from the document's tables and not by this program.
 mod damage;
 mod fields;
-mod print;
 mod refusal;
 mod roundtrip;
 mod sample;
@@ -10,7 +9,7 @@ mod sweep;
 mod table;
 
 use libc::STDIN_FILENO;
-use text::line;
+use libc::STDOUT_FILENO;
 
 fn main() {
     let mut text = io::large_buffer();
@@ -21,6 +20,6 @@ fn main() {
     table::run(&text[..len], &entries);
     // Where the input fills its room there may be more of it.
     if text.len() <= len {
-        line::text(b"no room for all cases\n");
+        io::write_all(STDOUT_FILENO, b"no room for all cases\n");
     }
 }

@@ -2,13 +2,20 @@
 use crate::sample;
 use crate::table::FIGURES;
 use text::checksum::checksum;
-use text::line;
+use text::line::put_filled;
 use text::part::front;
 use text::part::least;
 use validity::writing::write;
 
-// Prints number and value, and the output before and after.
-fn written(kind: u32, count: u32, entries: &[u8], out: &mut [u8]) {
+// Number and value, and the output before and after.
+fn put_written(
+    text: &mut [u8],
+    at: usize,
+    kind: u32,
+    count: u32,
+    entries: &[u8],
+    out: &mut [u8],
+) -> usize {
     let before = checksum(out);
     let answer = write(
         kind,
@@ -18,17 +25,14 @@ fn written(kind: u32, count: u32, entries: &[u8], out: &mut [u8]) {
         entries,
         out,
     );
-    line::figure(answer.number());
-    line::figure(answer.value());
-    line::number(before);
-    line::number(checksum(out));
-    line::end();
+    let figures = [answer.number(), answer.value(), before, checksum(out)];
+    put_filled(text, at, b"####\n", &figures)
 }
 
 // `given kind entries bytes room`: so many of the entries' bytes, and an output of so many.
-pub(crate) fn case(figures: [u32; FIGURES], entries: &[u8]) {
+pub(crate) fn case(text: &mut [u8], at: usize, figures: [u32; FIGURES], entries: &[u8]) -> usize {
     let lent = front(entries, figures[2] as usize);
     let mut out = [sample::UNTOUCHED; sample::OUTPUT_LEN];
     let room = least(figures[3] as usize, sample::OUTPUT_LEN);
-    written(figures[0], figures[1], lent, &mut out[0..room]);
+    put_written(text, at, figures[0], figures[1], lent, &mut out[0..room])
 }

@@ -1,15 +1,17 @@
 // The table of cases. A case is a line with a word that says what is tried, and figures in the order that the function for it names. What is
-// printed before its answer stands in the last line above that begins with `>`: words, with `#` for each figure in order (print.rt); figures
-// that are left over are not printed. Every other line is passed over: an empty one, and one behind `#`, which says what the lines below it try.
+// printed before its answer stands in the last line above that begins with `>`: words, with `#` for each figure in order; figures that are left
+// over are not printed. Every other line is passed over: an empty one, and one behind `#`, which says what the lines below it try.
 use crate::damage;
-use crate::print::print;
 use crate::refusal;
 use crate::roundtrip;
 use crate::sweep;
 use forms::bytes::byte_at;
-use text::figures::put_figures;
+use libc::STDOUT_FILENO;
+use text::figures::read_figures;
+use text::line::put_filled;
 use text::part::between;
 use text::part::find;
+use text::part::front;
 
 // The most figures of a line.
 pub const FIGURES: usize = 9;
@@ -18,19 +20,25 @@ pub const FIGURES: usize = 9;
 fn figures(line: &[u8]) -> [u32; FIGURES] {
     let space = find(line, 0, b' ');
     let mut figures = [0u32; FIGURES];
-    put_figures(between(line, space, line.len()), &mut figures);
+    read_figures(between(line, space, line.len()), &mut figures);
     figures
 }
 
 // A word is known by its first letter. One that is none of these shows in the output: it has words and no answer.
-fn case(word: u8, figures: [u32; FIGURES], entries: &[u8]) {
+fn put_case(
+    text: &mut [u8],
+    at: usize,
+    word: u8,
+    figures: [u32; FIGURES],
+    entries: &[u8],
+) -> usize {
     match word {
-        b'w' => roundtrip::case(figures, entries),
-        b'g' => refusal::case(figures, entries),
-        b'r' => damage::case(figures, entries),
-        b'b' => sweep::bytes(figures, entries),
-        b'l' => sweep::lengths(figures, entries),
-        _ => (),
+        b'w' => roundtrip::case(text, at, figures, entries),
+        b'g' => refusal::case(text, at, figures, entries),
+        b'r' => damage::case(text, at, figures, entries),
+        b'b' => sweep::bytes(text, at, figures, entries),
+        b'l' => sweep::lengths(text, at, figures, entries),
+        _ => at,
     }
 }
 
@@ -41,8 +49,10 @@ fn row(words: &[u8], line: &[u8], entries: &[u8]) {
         return;
     }
     let figures = figures(line);
-    print(between(words, 2, words.len()), &figures);
-    case(word, figures, entries);
+    let mut text = io::buffer();
+    let mut end = put_filled(&mut text, 0, between(words, 2, words.len()), &figures);
+    end = put_case(&mut text, end, word, figures, entries);
+    io::write_all(STDOUT_FILENO, front(&text, end));
 }
 
 pub(crate) fn run(text: &[u8], entries: &[u8]) {

@@ -106,7 +106,7 @@ twoRows name a b =
 abbrev pub namedTwo : List ℕ → ℕ → ℕ → Command
 namedTwo name a b = firstOf (twoRows name a b) Command.Other
 
--- "`open box value reading`, `inc b box value`, `confirm box value reading`"
+-- "`open box value reading`", "`inc b box value`", "`confirm box value reading`"
 abbrev pub threeRows : List ℕ → ℕ → ℕ → ℕ → List (Row Command)
 threeRows name a b c =
     (same name openName gives Command.Open (confirmationOf a b c))

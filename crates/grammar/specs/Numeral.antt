@@ -1,38 +1,11 @@
--- Decimal figures as text: document 01, "The program": "fields are decimal without leading zeros". Assumes nothing.
-use Prim.Native.Nat.{ℕ, zero, suc, _+_, _-_, _*_, _/_, _%_}
+-- Decimal figures read from text: document 01, "The program": "fields are decimal without leading zeros". Assumes nothing.
+use Prim.Native.Nat.{ℕ, _+_, _-_, _*_}
 use mathlib.Core.Bool.{Bool, true, false, not, cond, _&&_}
-use mathlib.Core.List.{List, [], _∷_, _++_}
-use lib.Dec.{eqb, leb, ltb}
-use lib.ListN.{length}
+use mathlib.Core.List.{List, [], _∷_}
+use lib.Dec.{eqb, leb}
 use Rattle.forms.specs.Limits.{largest}
+use Rattle.text.specs.Text.{zeroDigit, isDigit}
 pub use Rattle.grammar.specs.declared.numeral.Figure.{Figure}
-
--- the byte of the digit 0; the others follow it
-abbrev pub zeroDigit : ℕ
-zeroDigit = 48
-
--- ---- a number written
-
--- its digits, as many as it has and at most some
-unfoldable pub numeralIn : ℕ → ℕ → List ℕ
-numeralIn zero n = []
-numeralIn (suc places) n = cond (ltb n 10) ((zeroDigit + n) ∷ []) (numeralIn places (n / 10) ++ ((zeroDigit + n % 10) ∷ []))
-
--- a number of 32 bits has at most ten
-abbrev pub maxDigits : ℕ
-maxDigits = 10
-
-abbrev pub numeral : ℕ → List ℕ
-numeral n = numeralIn maxDigits n
-
--- the place behind a number's digits, stored in a text from a place on; the place itself where they do not fit there
-unfoldable pub numeralEnd : List ℕ → ℕ → ℕ → ℕ
-numeralEnd text at n = cond (leb (at + length (numeral n)) (length text)) (at + length (numeral n)) at
-
--- ---- a number read
-
-abbrev pub isDigit : ℕ → Bool
-isDigit b = leb zeroDigit b && ltb b (zeroDigit + 10)
 
 unfoldable pub allDigits : List ℕ → Bool
 allDigits [] = true

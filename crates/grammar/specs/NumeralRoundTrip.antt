@@ -10,7 +10,9 @@ use lib.ListN.{length, length-append}
 use borrow.Author.Tests.{lt-ltb, le-ltb, ltb-true, ltb-false, le-leb, leb-true, leb-false, eqb-false, ne-eqb, not-true}
 use Rattle.forms.specs.Limits.{largest}
 use Rattle.forms.specs.TestsLaws.{both}
-use Rattle.grammar.specs.Numeral.{Figure, zeroDigit, numeral, numeralIn, maxDigits, isDigit, allDigits, valueFrom, valueOf, unpadded, figureOf}
+use Rattle.text.specs.Line.{numeral, numeralIn, maxDigits}
+use Rattle.text.specs.Text.{zeroDigit, isDigit}
+use Rattle.grammar.specs.Numeral.{Figure, allDigits, valueFrom, valueOf, unpadded, figureOf}
 use Rattle.grammar.specs.NumeralLaws.{digit-within}
 
 -- ---- one digit more
@@ -126,8 +128,8 @@ value-least n (b ∷ s) =
     (mul-le-mul-right (10 ^ length s) (omega arith)))
     (value-least (n * 10 + (b - zeroDigit)) s)
 
-digit-least : (b : ℕ) → isDigit b ≡ true → (zeroDigit ≤ b) × (b < zeroDigit + 10)
-digit-least b e = let t = both (leb zeroDigit b) (ltb b (zeroDigit + 10)) e in (leb-true _ _ (t .0), ltb-true _ _ (t .1))
+digit-least : (b : ℕ) → isDigit b ≡ true → (zeroDigit ≤ b) × (b ≤ zeroDigit + 9)
+digit-least b e = let t = both (leb zeroDigit b) (leb b (zeroDigit + 9)) e in (leb-true _ _ (t .0), leb-true _ _ (t .1))
 
 -- a figure of more digits is larger
 headed-value : (s : List ℕ) (k : ℕ) → headed s ≡ true → allDigits s ≡ true → k < length s → 10 ^ k ≤ valueOf s

@@ -1,11 +1,9 @@
-// Decimal figures as text, without leading zeros: read from a part of a line, and written.
-use forms::bytes::put;
+// Decimal figures without leading zeros, read from a part of a line.
 use forms::bytes::wide;
 ghost use mathlib.Core.Path.{_≡_};
 ghost use Prim.Native.Nat.{_-_, _≤_};
 ghost use lib.ListN.{length, take, drop};
-ghost use Rattle.forms.specs.Bytes.{overwrite};
-ghost use Rattle.grammar.specs.Numeral.{figureOf, numeral, numeralEnd};
+ghost use Rattle.grammar.specs.Numeral.{figureOf};
 ghost use Rattle.grammar.specs.NumeralLaws.{valueWithin};
 
 // What stands in a field.
@@ -55,24 +53,4 @@ pub(crate) fn read_figure(line: &[u8], from: usize, to: usize) -> Figure
         return Figure::Missing;
     }
     Figure::Number(value as u32)
-}
-
-// Stores a number's digits from a place on, and answers the place behind them. Where they do not fit from there on, nothing is stored and the
-// place itself is answered.
-//
-// Ruled out, among others: a writer that stores the digits for which there is room; one that asks for room for ten digits to store one.
-pub fn put_numeral(text: &mut [u8], at: usize, number: u32) -> usize
-    ensures { λ r. ⌜ r ≡ numeralEnd (now (text .entry)) at number ⌝ }
-    ensures { λ _. ⌜ now (text .exit) ≡ overwrite (now (text .entry)) at (numeral number) ⌝ }
-{
-    let mut digits = [0u8; 20];
-    let count = io::decimal(number as u64, &mut digits);
-    if text.len() < at {
-        return at;
-    }
-    if text.len() - at < count {
-        return at;
-    }
-    put(text, at, &digits[..count]);
-    at + count
 }

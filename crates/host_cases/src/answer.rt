@@ -4,20 +4,26 @@ use crate::call;
 use crate::call::Call;
 use forms::bytes::byte_at;
 use host::answer::Figures;
+use libc::STDOUT_FILENO;
 use text::checksum::checksum;
-use text::line;
+use text::line::put_filled;
+use text::line::put_words;
 use text::part::between;
 use text::part::find;
+use text::part::front;
 use text::part::least;
 use validity::proof::Proof;
 
 // What every byte of the output is before a call.
 const UNTOUCHED: u8 = 0xA5;
 
+// Room for a printed line.
+pub const LINE_ROOM: usize = 256;
+
 // The checksums of image and output.
 struct Sums {
-    image: u64,
-    out: u64,
+    image: u32,
+    out: u32,
 }
 
 fn both(image: &[u8], out: &[u8]) -> Sums {
@@ -27,30 +33,40 @@ fn both(image: &[u8], out: &[u8]) -> Sums {
     }
 }
 
+// Writes the first bytes of a line, and a newline behind them.
+pub(crate) fn print_line(line: &mut [u8], len: usize) {
+    let end = put_words(line, len, b"\n");
+    io::write_all(STDOUT_FILENO, front(line, end));
+}
+
 fn has_output(word: u8) -> bool {
     word == b'p' || word == b'l'
 }
 
-// Prints whether a buffer changed, and its checksum now.
-fn print_sum(before: u64, now: u64) {
+// Puts into a line whether a buffer changed, and its checksum now.
+fn put_sum(line: &mut [u8], at: usize, before: u32, now: u32) -> usize {
     if before == now {
-        line::text(b" kept");
+        put_filled(line, at, b" kept#", &[now])
     } else {
-        line::text(b" changed");
+        put_filled(line, at, b" changed#", &[now])
     }
-    line::number(now);
+}
+
+// The same of the image, and of the output where the call has one.
+fn put_sums(line: &mut [u8], at: usize, word: u8, before: Sums, now: Sums) -> usize {
+    let end = put_sum(line, at, before.image, now.image);
+    if !has_output(word) {
+        return end;
+    }
+    put_sum(line, end, before.out, now.out)
 }
 
 fn print_answer(text: &[u8], figures: Figures, before: Sums, now: Sums) {
-    line::text(between(text, 0, find(text, 0, b'=')));
-    line::text(b"=");
-    line::figure(figures.number);
-    line::figure(figures.value);
-    print_sum(before.image, now.image);
-    if has_output(byte_at(text, 0)) {
-        print_sum(before.out, now.out);
-    }
-    line::end();
+    let mut line = [0u8; LINE_ROOM];
+    let mut end = put_words(&mut line, 0, between(text, 0, find(text, 0, b'=')));
+    end = put_filled(&mut line, end, b"=##", &[figures.number, figures.value]);
+    end = put_sums(&mut line, end, byte_at(text, 0), before, now);
+    print_line(&mut line, end);
 }
 
 // The call gets the first bytes of the image's buffer.

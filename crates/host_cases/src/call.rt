@@ -14,7 +14,7 @@ use host::raise::increment;
 use host::raise::tick;
 use host::read::read;
 use host::start::start;
-use text::figures::put_figures;
+use text::figures::read_figures;
 use text::part::between;
 use text::part::find;
 use text::part::front;
@@ -52,7 +52,7 @@ impl Call {
         let space = find(line, 0, b' ');
         let end = find(line, space, b'=');
         let mut given = [0u32; FIGURES];
-        put_figures(between(line, space, end), &mut given);
+        read_figures(between(line, space, end), &mut given);
         Call::new(byte_at(line, 0), given)
     }
 }

@@ -8,7 +8,7 @@ use forms::bytes::byte_at;
 use forms::bytes::put;
 use forms::image::Image;
 use forms::number::put_u32;
-use text::line;
+use text::line::put_words;
 use text::part::between;
 use text::part::find;
 
@@ -45,8 +45,9 @@ fn row(text: &[u8], lent: usize, image: &mut [u8], kept: &mut [u8]) -> usize {
         answer::print_each(lent, image);
         return lent;
     }
-    line::text(text);
-    line::end();
+    let mut line = [0u8; answer::LINE_ROOM];
+    let end = put_words(&mut line, 0, text);
+    answer::print_line(&mut line, end);
     let call = Call::of(text);
     edit(call, image, kept);
     if word == b'g' {

@@ -1,2 +1,4 @@
+pub mod Line
+pub mod LineLaws
 pub mod Text
 pub mod TextLaws

@@ -33,9 +33,12 @@ checksum s = foldl mixed 1 s
 
 -- ---- figures
 
--- "0" to "9", in ASCII
+-- the byte of the digit 0, in ASCII; the others follow it
+abbrev pub zeroDigit : ℕ
+zeroDigit = 48
+
 abbrev pub isDigit : ℕ → Bool
-isDigit b = leb 48 b && leb b 57
+isDigit b = leb zeroDigit b && leb b (zeroDigit + 9)
 
 -- a decimal number and one more digit, whose byte is 48 and the digit, modulo 2^32
 abbrev pub withDigit : ℕ → ℕ → ℕ

@@ -5,7 +5,7 @@ ghost use Rattle.text.specs.Text.{checksum};
 const MODULUS: u64 = 4294967291;
 
 // Ruled out, among others: a checksum that passes over the first byte; one that starts at 0, to which leading zeros are nothing.
-pub fn checksum(s: &[u8]) -> u64
+pub fn checksum(s: &[u8]) -> u32
     ensures { λ r. ⌜ r ≡ checksum (now (s .entry)) ⌝ }
 {
     let mut sum: u64 = 1;
@@ -14,5 +14,5 @@ pub fn checksum(s: &[u8]) -> u64
         sum = (sum * 257 + s[i] as u64) % MODULUS;
         i += 1;
     }
-    sum
+    sum as u32
 }

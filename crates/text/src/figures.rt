@@ -33,7 +33,7 @@ fn put_last(figures: &mut [u32], count: usize, figure: u32)
 // Stores the figures of a text, each behind a byte that is no digit, where there is room, and answers how many were begun.
 //
 // Ruled out, among others: a reader that stores a figure before the first such byte; one that counts only the figures that have room.
-pub fn put_figures(text: &[u8], figures: &mut [u32]) -> usize
+pub fn read_figures(text: &[u8], figures: &mut [u32]) -> usize
     ensures { λ r. ⌜ r ≡ figuresIn (now (text .entry)) (now (figures .entry)) .count ⌝ }
     ensures { λ _. ⌜ now (figures .exit) ≡ figuresIn (now (text .entry)) (now (figures .entry)) .stored ⌝ }
 {

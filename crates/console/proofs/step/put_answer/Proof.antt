@@ -5,8 +5,8 @@ use native.Mathlib.Omega.{arith}
 use borrow.Author.Needs.{needs}
 use lib.ListN.{length}
 use Rattle.forms.specs.BytesLaws.{length-overwrite}
-use Rattle.grammar.specs.Numeral.{numeral}
-use Rattle.grammar.specs.NumeralLaws.{length-numeral, numeral-fits}
+use Rattle.text.specs.Line.{numeral}
+use Rattle.text.specs.LineLaws.{length-numeral, stored-fits}
 use Rattle.console.specs.AnswerLaws.{answer-length, answer-stored}
 use Rattle.console.proofs.step.put_answer.Statement.{statement}
 use Rattle.console.proofs.step.put_answer.Tie as tie
@@ -24,7 +24,7 @@ number-at c =
     let start = c .before .before .before in
     let a = start .args in
     c .put-numeral .ensures .0
-    ∙ numeral-fits (a .text .now) (a .at) (a .figures .number) (omega (arith, length-numeral 10 (a .figures .number), start .pre))
+    ∙ stored-fits (a .text .now) (a .at) (numeral (a .figures .number)) (omega (arith, length-numeral 10 (a .figures .number), start .pre))
 
 value-at : (c : tie.After-put-numeral2) →
     let number = c .before .before .before .before .before .before .before .before .before in
@@ -35,7 +35,7 @@ value-at c =
     let start = number .before .before .before in
     let a = start .args in
     c .put-numeral2 .ensures .0
-    ∙ numeral-fits (put .put .last .0) (number .put-numeral .result + 1) (a .figures .value)
+    ∙ stored-fits (put .put .last .0) (number .put-numeral .result + 1) (numeral (a .figures .value))
     (omega (arith, as-long put, number-at number, length-numeral 10 (a .figures .number), length-numeral 10 (a .figures .value), start .pre))
 
 number-ends : tie.Need-add-put-numeral

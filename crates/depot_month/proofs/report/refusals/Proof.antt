@@ -5,10 +5,10 @@ use Rattle.depot_month.proofs.report.refusals.Statement.{statement}
 use Rattle.depot_month.proofs.report.refusals.Tie as tie
 
 abbrev Inv-loop : tie.InvT-loop
-Inv-loop books number₀ t3 t4 number = number ≤ 27
+Inv-loop books number₀ t4 number = number ≤ 27
 
 abbrev μ-loop : tie.MeasureT-loop
-μ-loop books number₀ t3 t4 number = 27 - number
+μ-loop books number₀ t4 number = 27 - number
 
 pub refusals-spec : {M : Type 1} → statement M
 refusals-spec =
@@ -17,12 +17,10 @@ refusals-spec =
     Inv-loop
     μ-loop
     (λ c. search needs)
-    (λ c. search needs)
-    (λ c. search needs)
     (λ c κs. search needs)
     (λ c. search needs)
-    (λ c κs. search needs)
-    (λ c κs. search needs)
+    (λ c. search needs)
+    (λ c. search needs)
     (λ c κs. search needs)
     (λ c. search needs)
     (λ c. search needs)

@@ -50,4 +50,5 @@ checksum-spec =
     (λ c. search needs)
     (λ c. search needs)
     again
+    (λ c. search needs)
     ended)

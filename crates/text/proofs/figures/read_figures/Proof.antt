@@ -1,4 +1,4 @@
--- `text::figures::put_figures` meets its contract: what is left of the text makes of the figures so far those of the whole. Assumes nothing.
+-- `text::figures::read_figures` meets its contract: what is left of the text makes of the figures so far those of the whole. Assumes nothing.
 use mathlib.Core.Path.{_≡_, refl, sym, ap, _∙_}
 use Prim.Native.Nat.{ℕ, _-_, _≤_, _<_}
 use mathlib.Core.List.{foldl}
@@ -8,8 +8,8 @@ use borrow.Author.Needs.{needs}
 use lib.ListN.{length, getD, drop}
 use Rattle.text.specs.Text.{FiguresRead, byteRead, figuresIn, putLast}
 use Rattle.text.specs.TextLaws.{digit-read, fold-next, fold-past, next-read}
-use Rattle.text.proofs.figures.put_figures.Statement.{statement}
-use Rattle.text.proofs.figures.put_figures.Tie as tie
+use Rattle.text.proofs.figures.read_figures.Statement.{statement}
+use Rattle.text.proofs.figures.read_figures.Tie as tie
 
 abbrev Inv-loop : tie.InvT-loop
 Inv-loop text figures₀ count₀ figure₀ i₀ figures count figure i =
@@ -51,8 +51,8 @@ ended c =
     let whole = sym (at .inv .2 ∙ fold-past byteRead read text (at .i) (omega arith)) in
     (ap (λ (f : FiguresRead). f .count) whole, ap (λ (f : FiguresRead). f .stored) whole)
 
-pub put-figures-spec : {M : Type 1} → statement M
-put-figures-spec =
+pub read-figures-spec : {M : Type 1} → statement M
+read-figures-spec =
     tie.close
     (tie.spec
     Inv-loop
