@@ -1,11 +1,10 @@
--- Verdicts counted from a proof's length, and the entry of a reading looked for along the log. Assumes nothing.
-use Prim.Native.Nat.{ℕ, zero, suc, _+_, _-_, _*_, _/_, _≤_, _<_}
+-- A proof that a line asks for, judged with every verdict yes, and the entry of a reading looked for along the log. Assumes nothing.
+use Prim.Native.Nat.{ℕ, zero, suc, _+_, _-_, _*_, _≤_, _<_}
 use mathlib.Core.Path.{_≡_, refl, sym, ap, ap₂, _∙_, subst⁻¹}
 use mathlib.Core.Bool.{Bool, true, false, cond, _&&_, _||_, false≢true, or-true}
 use mathlib.Core.List.{List, [], _∷_}
 use native.Mathlib.Omega.{arith}
-use native.Mathlib.Nat.{add-sub-cancel-left, mul-comm, mul-div-cancel}
-use lib.Dec.{eqb, lit<}
+use lib.Dec.{eqb}
 use lib.ListN.{length, take, drop, replicate, length-replicate}
 use borrow.Author.Tests.{eq-eqb, ne-eqb}
 use Rattle.forms.specs.Entry.{entryAt, entriesAt}
@@ -14,13 +13,13 @@ use Rattle.forms.specs.Terms.{sameId}
 use Rattle.forms.specs.declared.entry.Entry.{Entry}
 use Rattle.forms.specs.declared.terms.CounterId.{CounterId}
 use Rattle.forms.specs.declared.terms.GlobalClock.{GlobalClock}
-use Rattle.validity.specs.Proof.{Fields, logOffset, proofLen, shapeOf}
+use Rattle.validity.specs.Proof.{Fields, proofLen, shapeOf}
 use Rattle.validity.specs.declared.proof.Kind.{Kind}
-use Rattle.validity.specs.declared.proof.Proof.{Proof}
 use Rattle.log_image.specs.LogLaws.{entries-first}
 use Rattle.log_image.specs.Sound.{base, after}
 use Rattle.log_image.specs.State.{State, decode, entryCount}
-use Rattle.desk.specs.Desk.{verdictsBefore, verdictCount, allYes, verified}
+use Rattle.desk.specs.Desk.{allYes, verdictsFor, verified}
+use Rattle.desk.specs.VerdictsLaws.{verdicts-counted, verdicts-few}
 use Rattle.host.specs.DoneLaws.{settled-passed, value-given}
 use Rattle.host.specs.Host.{hasEntry, requestNonce, heldOf, proofOf, lastOf, proveRefusal, lastRefusal, counted, proveCall, lastCall, proveOutput, lastOutput}
 use Rattle.host.specs.LastLaws.{has-none, log-few}
@@ -28,10 +27,6 @@ use Rattle.host.specs.RefusalLaws.{prove-passed, last-passed}
 use Rattle.host.specs.declared.answer.Figures.{Figures}
 use Rattle.grammar.specs.declared.command.Command.{Command}
 use Rattle.console.specs.Step.{deskFigures, emptyOutput, nonceOf, ran, shown}
-
--- how many verdicts there are on a proof of a kind and a length
-abbrev pub verdictsFor : Kind → ℕ → ℕ
-verdictsFor kind len = verdictsBefore kind + 2 * ((len - logOffset kind) / entryLen)
 
 -- ---- the request in the entry with a reading
 
@@ -80,23 +75,11 @@ take-replicate zero m x few = refl
 take-replicate (suc n) zero x few = absurd (omega arith)
 take-replicate (suc n) (suc m) x few = ap (λ (l : List ℕ). x ∷ l) (take-replicate n m x (omega arith))
 
--- the longest proof has the most verdicts
-verdicts-few : (kind : Kind) (len : ℕ) → len ≤ maxProofLen → verdictsFor kind len ≤ 2 + 2 * maxEntries
-verdicts-few Kind.Read len few = omega (arith, few)
-verdicts-few Kind.Increment len few = omega (arith, few)
-
 -- the first of as many verdicts as a proof can have
 pub first-yes : (kind : Kind) (len n : ℕ) → len ≤ maxProofLen → n ≡ verdictsFor kind len
     → take n (replicate {A = ℕ} (2 + 2 * maxEntries) 1) ≡ replicate {A = ℕ} (verdictsFor kind len) 1
 first-yes kind len n few e =
     ap (λ (k : ℕ). take k (replicate {A = ℕ} (2 + 2 * maxEntries) 1)) e ∙ take-replicate (verdictsFor kind len) (2 + 2 * maxEntries) 1 (verdicts-few kind len few)
-
--- a proof's length gives the count of its verdicts
-pub verdicts-counted : (p : Proof) → verdictsFor (p .kind) (proofLen p) ≡ verdictCount p
-verdicts-counted p = ap (λ (n : ℕ). verdictsBefore (p .kind) + 2 * n) (entries-counted (logOffset (p .kind)) (p .count))
-  where
-    entries-counted : (log n : ℕ) → (log + entryLen * n - log) / entryLen ≡ n
-    entries-counted log n = ap (λ (m : ℕ). m / entryLen) (add-sub-cancel-left log (entryLen * n)) ∙ ap (λ (m : ℕ). m / entryLen) (mul-comm entryLen n) ∙ mul-div-cancel n (lit< tt)
 
 -- ---- what is shown of a proof
 
@@ -121,11 +104,6 @@ pub output-long : length emptyOutput ≡ maxProofLen
 unfolding emptyOutput
 output-long = length-replicate {A = ℕ} maxProofLen 0
 
--- the length of a proof that was written: at least that of one without entries, and within its output
-pub record Written (kind : Kind) (len : ℕ) : Type 0 where
-  pub whole : logOffset kind ≤ len
-  pub within : len ≤ maxProofLen
-
 -- an entry behind a place is one of all
 has-behind : (id : CounterId) (t : GlobalClock) (es : List Entry) (k : ℕ) → hasEntry id t (drop k es) ≡ true → hasEntry id t es ≡ true
 unfolding hasEntry
@@ -133,28 +111,29 @@ has-behind id t es zero has = has
 has-behind id t [] (suc k) has = has
 has-behind id t (e ∷ es) (suc k) has = ap (λ (b : Bool). sought id t e || b) (has-behind id t es k has) ∙ or-true (sought id t e)
 
+-- what was written has a proof's length, and is no longer than its output
 module _ (s : List ℕ) (id : CounterId) where
   pub prove-written : (nonce : List ℕ) →
       let call = proveCall s nonce id (length emptyOutput) .figures in
-      call .number ≡ 0 → (call .value ≡ proofLen (shapeOf (proofOf (decode s) nonce id))) × Written Kind.Read (call .value)
+      call .number ≡ 0 → (call .value ≡ proofLen (shapeOf (proofOf (decode s) nonce id))) × (call .value ≤ maxProofLen)
   prove-written nonce done =
       let st : State = decode s in
       let len : ℕ = proofLen (shapeOf (proofOf st nonce id)) in
       let number : ℕ = proveRefusal st nonce id len (length emptyOutput) in
       let value = value-given s number len (counted st) done in
       let rows = prove-passed st nonce id len (length emptyOutput) (settled-passed s number len (counted st) done .1) in
-      (value, record { whole = omega (arith, value); within = omega (arith, value, rows .fits, output-long) })
+      (value, omega (arith, value, rows .fits, output-long))
 
   pub last-written : (t : GlobalClock) →
       let call = lastCall s id t (length emptyOutput) .figures in
-      call .number ≡ 0 → (call .value ≡ proofLen (shapeOf (lastOf (decode s) id t))) × Written Kind.Increment (call .value)
+      call .number ≡ 0 → (call .value ≡ proofLen (shapeOf (lastOf (decode s) id t))) × (call .value ≤ maxProofLen)
   last-written t done =
       let st : State = decode s in
       let len : ℕ = proofLen (shapeOf (lastOf st id t)) in
       let number : ℕ = lastRefusal st id t len (length emptyOutput) in
       let value = value-given s number len (counted st) done in
       let rows = last-passed st id t len (length emptyOutput) (settled-passed s number len (counted st) done .1) in
-      (value, record { whole = omega (arith, value); within = omega (arith, value, rows .fits, output-long) })
+      (value, omega (arith, value, rows .fits, output-long))
 
   -- where last was written, the log is an image's, and has the entry
   pub last-found : (t : GlobalClock) (nonce : List ℕ) → lastCall s id t (length emptyOutput) .figures .number ≡ 0
@@ -171,8 +150,8 @@ module _ (s : List ℕ) (id : CounterId) where
 -- ---- prove and last as lines
 
 module _ (s : List ℕ) (b : ℕ) (id : CounterId) (written : Figures) (call : written ≡ proveCall s (nonceOf b) id (length emptyOutput) .figures) where
-  pub prove-line-written : written .number ≡ 0 → Written Kind.Read (written .value)
-  prove-line-written done = subst⁻¹ (λ (f : Figures). Written Kind.Read (f .value)) call (prove-written s id (nonceOf b) (sym (ap (λ (f : Figures). f .number) call) ∙ done) .1)
+  pub prove-line-written : written .number ≡ 0 → written .value ≤ maxProofLen
+  prove-line-written done = subst⁻¹ (λ (f : Figures). f .value ≤ maxProofLen) call (prove-written s id (nonceOf b) (sym (ap (λ (f : Figures). f .number) call) ∙ done) .1)
 
   pub prove-line-refused : (written .number ≡ 0 → ⊥) → written ≡ ran s (Command.Prove b id) .figures
   unfolding ran
@@ -194,8 +173,8 @@ module _ (s : List ℕ) (b : ℕ) (id : CounterId) (written : Figures) (call : w
       (prove-written s id (nonceOf b) again .0))
 
 module _ (s : List ℕ) (id : CounterId) (t : GlobalClock) (written : Figures) (call : written ≡ lastCall s id t (length emptyOutput) .figures) where
-  pub last-line-written : written .number ≡ 0 → Written Kind.Increment (written .value)
-  last-line-written done = subst⁻¹ (λ (f : Figures). Written Kind.Increment (f .value)) call (last-written s id t (sym (ap (λ (f : Figures). f .number) call) ∙ done) .1)
+  pub last-line-written : written .number ≡ 0 → written .value ≤ maxProofLen
+  last-line-written done = subst⁻¹ (λ (f : Figures). f .value ≤ maxProofLen) call (last-written s id t (sym (ap (λ (f : Figures). f .number) call) ∙ done) .1)
 
   pub last-line-refused : (written .number ≡ 0 → ⊥) → written ≡ ran s (Command.Last id t) .figures
   unfolding ran

@@ -1,4 +1,5 @@
 // prove and last as lines ask for them: the host writes the proof, and the desk judges it with every verdict yes.
+use desk::verdicts::verdict_count;
 use desk::verify::verify;
 use forms::entry::Entry;
 use forms::image::Image;
@@ -18,35 +19,21 @@ ghost use Prim.Native.Nat.{ℕ, _≤_};
 ghost use lib.ListN.{replicate, take};
 ghost use Rattle.forms.specs.Entry.{entriesAt};
 ghost use Rattle.forms.specs.Limits.{imageLogOffset, maxEntries, maxProofLen};
-ghost use Rattle.validity.specs.Proof.{logOffset};
-ghost use Rattle.desk.specs.Desk.{verified};
+ghost use Rattle.desk.specs.Desk.{verdictsFor, verified};
 ghost use Rattle.grammar.specs.declared.command.Command.{Command};
 ghost use Rattle.console.specs.Step.{deskFigures, ran};
-ghost use Rattle.console.specs.StepLaws.{FoundIn, FoundNonce, verdictsFor};
+ghost use Rattle.console.specs.StepLaws.{FoundIn, FoundNonce};
 
 // The most verdicts on a proof: on the confirmation, on the certificate, and two on each entry.
 const MAX_VERDICTS: usize = 2 + 2 * (Proof::MAX_ENTRIES as usize);
 
-// How many verdicts there are on a proof of a kind and a length.
-fn verdict_count(kind: Kind, len: u32) -> usize
-    requires { ⌜ (logOffset kind ≤ len) × (len ≤ maxProofLen) ⌝ }
-    ensures { λ r. ⌜ r ≡ verdictsFor kind len ⌝ }
-{
-    let log = Proof::new(kind, 0).log_offset();
-    let entries = (len as usize - log) / Entry::LEN;
-    match kind {
-        Kind::Read => 2 + 2 * entries,
-        Kind::Increment => 1 + 2 * entries,
-    }
-}
-
 // The desk's number and value for the proof of a kind at the start of an output.
 fn judge(kind: Kind, len: u32, out: &[u8], id: CounterId, nonce: &[u8]) -> Figures
-    requires { ⌜ (logOffset kind ≤ len) × (len ≤ maxProofLen) ⌝ }
+    requires { ⌜ len ≤ maxProofLen ⌝ }
     ensures { λ r. ⌜ r ≡ deskFigures (verified (take len (now (out .entry))) (replicate {A = ℕ} (verdictsFor kind len) 1) id (now (nonce .entry))) ⌝ }
 {
     let yes = [1u8; MAX_VERDICTS];
-    let verdicts = front(&yes, verdict_count(kind, len));
+    let verdicts = front(&yes, verdict_count(kind, len as usize));
     let figures = verify(front(out, len as usize), verdicts, id, nonce).figures();
     Figures {
         number: figures.number,

@@ -4,8 +4,8 @@ use crate::cards::Slip;
 use crate::module;
 use crate::plan::id_of;
 use crate::tally;
+use desk::verdicts::verdict_count;
 use desk::verify::verify;
-use forms::entry::Entry;
 use forms::nonce::Nonce;
 use forms::terms::GlobalClock;
 use text::part::front;
@@ -14,19 +14,6 @@ use validity::proof::Proof;
 
 // Verdict bytes of the longest proof.
 const VERDICTS: usize = 2 + 2 * (Proof::MAX_ENTRIES as usize);
-
-// How many verdicts a proof of a length has: one for the confirmation and in kind 1 one for the certificate, and two for each entry.
-fn verdict_count(kind: Kind, len: usize) -> usize {
-    let log = Proof::new(kind, 0).len();
-    if len < log {
-        return 0;
-    }
-    let entries = (len - log) / Entry::LEN;
-    match kind {
-        Kind::Read => 2 + 2 * entries,
-        Kind::Increment => 1 + 2 * entries,
-    }
-}
 
 // What a proof is judged for: its counter and nonce, the reading that it has to close on and the value that the host stands for.
 pub struct Wanted {

@@ -1,6 +1,6 @@
--- The desk's answer to a validity proof: document 01, "The desk". One row of `verified` for each row of its table, in its order; where a
--- number is given for two things, one row for each. Assumes nothing.
-use Prim.Native.Nat.{ℕ, _+_, _-_, _*_}
+-- The desk's answer to a validity proof: document 01, "The desk". One row of `verified` for each row of its table, in its order; 9 and
+-- 11 have two, for the clock certificate and for the entries. Assumes nothing.
+use Prim.Native.Nat.{ℕ, _+_, _-_, _*_, _/_}
 use mathlib.Core.Bool.{Bool, true, false, not, _&&_, _||_}
 use mathlib.Core.List.{List, [], _∷_}
 use lib.Dec.{eqb, leb, ltb}
@@ -53,6 +53,10 @@ verdictsBefore Kind.Increment = 1
 -- the length of the verdict list
 abbrev pub verdictCount : Proof → ℕ
 verdictCount p = verdictsBefore (p .kind) + 2 * p .count
+
+-- the same by a proof's kind and whole length
+abbrev pub verdictsFor : Kind → ℕ → ℕ
+verdictsFor kind len = verdictsBefore kind + 2 * ((len - logOffset kind) / entryLen)
 
 -- a verdict list for the proof written from some fields, all yes
 abbrev pub allYes : Fields → List ℕ

@@ -1,6 +1,7 @@
 // The verdict list: one byte each, 0 no and 1 yes, for the confirmation, in a read's proof the clock certificate, and then for each entry
 // the module's and the owner's.
 use forms::bytes::byte_at;
+use forms::entry::Entry;
 use validity::proof::Kind;
 use validity::proof::Proof;
 ghost use mathlib.Core.Path.{_≡_};
@@ -8,7 +9,22 @@ ghost use mathlib.Core.Bool.{false};
 ghost use Prim.Native.Nat.{_+_, _*_, _≤_};
 ghost use lib.ListN.{length};
 ghost use Rattle.desk.specs.Lowest.{lowest};
-ghost use Rattle.desk.specs.Desk.{verdictsBefore, zeroOrOne, badVerdicts, certificateDenied, moduleDenied};
+ghost use Rattle.desk.specs.Desk.{verdictsBefore, verdictsFor, zeroOrOne, badVerdicts, certificateDenied, moduleDenied};
+
+// How many verdicts there are on a proof of a kind and a whole length: so many a station has to hand over.
+//
+// Ruled out, among others: a count without the certificate's verdict in kind 1; one verdict for each entry.
+pub fn verdict_count(kind: Kind, len: usize) -> usize
+    ensures { λ r. ⌜ r ≡ verdictsFor kind len ⌝ }
+{
+    let proof = Proof::new(kind, 0);
+    let before = count_before(proof);
+    let log = proof.log_offset();
+    if len < log {
+        return before;
+    }
+    before + 2 * ((len - log) / Entry::LEN)
+}
 
 // How many verdicts stand before those of the entries.
 pub(crate) fn count_before(proof: Proof) -> usize

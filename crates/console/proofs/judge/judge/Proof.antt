@@ -17,7 +17,7 @@ judged c =
     let a = verify .before .before .before .before .before .before .before .args in
     let pre = verify .before .before .before .before .before .before .before .pre in
     let counted = verify .before .before .before in
-    let verdicts = verify .before .before .front .ensures ∙ first-yes (a .kind) (a .len) (counted .verdict-count .result) (pre .1) (counted .verdict-count .ensures) in
+    let verdicts = verify .before .before .front .ensures ∙ first-yes (a .kind) (a .len) (counted .verdict-count .result) pre (counted .verdict-count .ensures) in
     ap (λ (f : Figures). record { number = f .number; value = f .value }) (c .figures .ensures ∙ ap figures (verify .verify .ensures))
     ∙ ap₂ (λ (s vs : List ℕ). deskFigures (verified s vs (a .id) (a .nonce .now))) (verify .before .front2 .ensures) verdicts
 

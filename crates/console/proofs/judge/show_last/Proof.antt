@@ -1,5 +1,5 @@
--- `console::judge::show_last` meets its contract: a refusal is the host's, and a proof that was written is judged with the nonce of its last
--- entry. Assumes nothing.
+-- `console::judge::show_last` meets its contract: a refusal is the host's, and a proof that was written is judged with the nonce of the
+-- request in entry t. Assumes nothing.
 use borrow.Author.Needs.{needs}
 use Rattle.console.specs.Step.{emptyOutput, ran}
 use Rattle.console.specs.StepLaws.{last-line-refused, last-line-written, last-line-judged}
@@ -18,8 +18,7 @@ unfolding emptyOutput
 written c κs =
     let call = c .before .before .before .before .before .before .before in
     let a = call .before .before .before .before .before .before .args in
-    let proof = last-line-written (a .image .now) (a .id) (a .t) (call .last .result) (call .last .ensures .0) (c .before .before .if1 .left) in
-    (proof .whole, proof .within)
+    last-line-written (a .image .now) (a .id) (a .t) (call .last .result) (call .last .ensures .0) (c .before .before .if1 .left)
 
 judged : tie.Need-returns-2
 unfolding ran emptyOutput

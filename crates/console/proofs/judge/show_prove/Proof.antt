@@ -17,8 +17,7 @@ unfolding emptyOutput
 written c κs =
     let call = c .before .before .before .before .before .before .before in
     let a = call .before .before .before .before .before .args in
-    let proof = prove-line-written (a .image .now) (a .byte) (a .id) (call .prove .result) (call .prove .ensures .0) (c .before .before .if1 .left) in
-    (proof .whole, proof .within)
+    prove-line-written (a .image .now) (a .byte) (a .id) (call .prove .result) (call .prove .ensures .0) (c .before .before .if1 .left)
 
 judged : tie.Need-returns-2
 unfolding ran emptyOutput
