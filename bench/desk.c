@@ -1,5 +1,5 @@
 /*
- * The proved desk beside the plain one: first that both give the same four figures, then how long each takes.
+ * The proved desk beside two plain ones: first that all give the same four figures, then how long each takes.
  *
  * Exits with 1 where any figure differs, or where a check that the desk has was never met, so that the comparison would be hollow.
  */

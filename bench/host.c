@@ -1,5 +1,5 @@
 /*
- * The proved host beside the plain one: first that both give the same two figures and leave the same bytes in image and output, then how
+ * The proved host beside two plain ones: first that all give the same two figures and leave the same bytes in image and output, then how
  * long each takes.
  *
  * Exits with 1 where anything differs, or where a call or a number that the host has was never met, so that the comparison would be hollow.

@@ -1,5 +1,5 @@
-/* The host of document 01 in plain C, to compare and to time the proved one against: parameters and answers are those of the calls of the
- * same names in include/vmc.h. */
+/* The host of document 01 in plain C, to compare and to time the proved one against: answers and parameters are those of vmc_host_* in
+ * include/vmc.h, with `lookup` before them in every call but start. */
 #ifndef HOST_PLAIN_H
 #define HOST_PLAIN_H
 

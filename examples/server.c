@@ -12,7 +12,7 @@ static uint8_t image[VMC_IMAGE_LEN];
 static uint8_t proof[VMC_PROOF_MAX_LEN];
 static uint8_t verdicts[2 + 2 * VMC_PROOF_MAX_ENTRIES];
 
-/* Document 01, "Proof form": the kind at byte 2, the count of entries at byte 20. */
+/* Document 01, "Proof form": the lower byte of the kind at byte 3, the count of entries at byte 20. */
 enum { KIND = 3, COUNT = 20 };
 
 static void print(uint32_t number, uint32_t value)

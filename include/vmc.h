@@ -19,7 +19,7 @@
 extern "C" {
 #endif
 
-/* The wanted nonce has exactly this many bytes. */
+/* A nonce has exactly this many bytes. */
 #define VMC_NONCE_LEN 20u
 /* A proof has at most this many entries, and so at most this many bytes. */
 #define VMC_PROOF_MAX_ENTRIES 1024u
@@ -42,7 +42,7 @@ extern "C" {
  *      9  the module's verdict is no: at the clock certificate (place 0) or at an entry
  *     10  kind 1: the clock certificate has another nonce than the wanted one; kind 2: the last entry has another counter or nonce
  *     11  an entry's reading is not one more than the one before it, which for entry 1 is the confirmation's; or the clock
- *         certificate's is not the last of them (place: number of entries + 1)
+ *         certificate's is not that of the last entry, or without entries the confirmation's (place: number of entries + 1)
  *     12  the owner's verdict is no at an entry of the wanted counter
  *     13  an entry of the wanted counter does not state the running value as its value before
  *

@@ -1,6 +1,6 @@
 -- Each accepted call shows the value that the history gives its counter at the reading that the proof closes on, by induction on its place:
--- its confirmation is the counter's opening or was made from a proof accepted before. What stands after the call is not supposed anything
--- of. Assumes nothing.
+-- its confirmation is the counter's opening or was made from a proof accepted before. Nothing is supposed of what stands after the
+-- call. Assumes nothing.
 use Prim.Native.Nat.{ℕ, zero, suc, _≤_, _<_}
 use mathlib.Core.Path.{_≡_, refl, sym, ap, subst, subst₂, _∙_}
 use mathlib.Core.Logic.{_⊎_, inl, inr}

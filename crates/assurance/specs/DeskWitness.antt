@@ -84,12 +84,12 @@ everywhere-at P [] all i x stands = absurd (let z : _≡_ {A = ℕ} 0 1 = cc in 
 everywhere-at P (y ∷ l) all zero x stands = subst (P 0) (let same : y ≡ x = cc in same) (all .0)
 everywhere-at P (y ∷ l) all (suc i) x stands = everywhere-at (λ j. P (suc j)) l (all .1) i x stands
 
--- a fact of each number from 1 on
+-- a fact of each number from 1 to n
 abbrev UpTo : (ℕ → Type 0) → ℕ → Type 0
 UpTo P zero = Unit {0}
 UpTo P (suc n) = UpTo P n × P (suc n)
 
--- holds of each number from 1 on
+-- holds of each number from 1 to n
 up-to-at : (P : ℕ → Type 0) (n : ℕ) → UpTo P n → (k : ℕ) → 1 ≤ k → k ≤ n → P k
 up-to-at P zero all k low high = absurd (omega arith)
 up-to-at P (suc n) all k low high = from (decLe k n) (up-to-at P n (all .0) k low)

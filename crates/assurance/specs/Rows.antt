@@ -1,5 +1,5 @@
--- What each row of the desk's table says where its test does not hold, and that number 0 means that no test holds. The rows stand in the
--- table's order. Assumes nothing.
+-- What the rows of the desk's table say where their tests do not hold, and that number 0 means that no test holds. They stand in the table's
+-- order, but for 4, which the closing reading needs; 2, 3 and 5 are said by `Reads` of validity. Assumes nothing.
 use Prim.Native.Nat.{ℕ, zero, suc, _+_, _≤_}
 use mathlib.Core.Path.{_≡_, refl, sym, ap, subst, _∙_}
 use mathlib.Core.Bool.{Bool, true, false, not, cond, _&&_, false≢true}

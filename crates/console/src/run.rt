@@ -16,7 +16,7 @@ const TEXT: usize = PART * MAX_ANSWER;
 
 struct Turn {
     line: Line,
-    // The input goes on.
+    // Another turn is to be taken.
     more: bool,
     // Nothing failed.
     whole: bool,

@@ -85,7 +85,8 @@ pub(crate) fn proved(place: u32, day: u32, image: &mut [u8], books: &mut [u8]) -
     proved_now(place, value, day, image, books)
 }
 
-// The reading of the counter's last raise, or of the raise before it; of a counter that was not raised, that of its opening.
+// The reading of the counter's last raise, or the value before that its request stated: the raise before it, or the opening. Of a counter that
+// was not raised it is no raise of its own, and the host refuses it.
 fn raise_of(value: u32, earlier: bool, books: &[u8]) -> GlobalClock {
     let newest = GlobalClock(value);
     if earlier && FIRST_READING < value {

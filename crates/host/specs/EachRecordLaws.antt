@@ -38,8 +38,6 @@ pub each-snoc : {P : Record → Type 0} {rs : List Record} {r : Record} → Each
 each-snoc done q = more q done
 each-snoc (more p ps) q = more p (each-snoc ps q)
 
--- ---- ids
-
 -- ---- the record of a held counter
 
 -- the first record is the counter's

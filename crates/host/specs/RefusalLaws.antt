@@ -1,5 +1,5 @@
--- What a call that is not refused has passed: number 0 means that no row's test holds. One record of it for each call that changes the
--- clock, the records or the log. Assumes nothing.
+-- What a call that is not refused has passed: number 0 means that no row's test holds. One record of it for each call that has rows and may
+-- write: all but start and read. Assumes nothing.
 use mathlib.Core.Path.{_≡_, refl, sym, ap, _∙_}
 use Prim.Native.Nat.{ℕ, _-_, _≤_}
 use mathlib.Core.Bool.{Bool, true, false, not, cond, false≢true}

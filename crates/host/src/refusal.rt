@@ -1,4 +1,4 @@
-// Tests that several calls share, each a part of a row of document 01's table.
+// Tests of document 01's table, each a row or a part of one. All but the last are shared by several calls.
 use forms::confirmation::Confirmation;
 use forms::nonce;
 use forms::terms::CounterId;

@@ -1,5 +1,5 @@
--- Reading and writing a validity proof are inverse to each other: document 01's demand that a proof written from fields reads as those
--- fields, and that bytes that read as a proof are the only ones so written. Assumes nothing.
+-- Reading and writing a validity proof are inverse to each other: demand 2, "A proof written from fields reads as those fields, and bytes that
+-- read as a proof are the only ones so written". Assumes nothing.
 use mathlib.Core.Path.{_≡_, refl, sym, ap, ap₂, _∙_, subst}
 use Prim.Native.Nat.{ℕ, _+_, _*_, _≤_}
 use native.Mathlib.Omega.{arith}

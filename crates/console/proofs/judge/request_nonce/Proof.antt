@@ -1,4 +1,4 @@
--- `console::judge::request_nonce` meets its contract: an image has no more entries than it can have. Assumes nothing.
+-- `console::judge::request_nonce` meets its contract: nothing is promised of a log with more entries than an image can have. Assumes nothing.
 use mathlib.Core.Path.{subst}
 use Prim.Native.Nat.{ℕ}
 use native.Mathlib.Omega.{arith}

@@ -1,4 +1,4 @@
--- `console::session::Line::begun` meets its contract: a line of 80 bytes has a first one. Assumes nothing.
+-- `console::session::Line::begun` meets its contract: the buffer has 80 bytes, so that a length above 0 has a first one. Assumes nothing.
 use mathlib.Core.Path.{sym, _∙_}
 use borrow.Author.Needs.{needs}
 use lib.ListN.{length-map}

@@ -7,7 +7,7 @@ use Rattle.console.specs.SessionLaws.{extended-held, over-held}
 use Rattle.console.proofs.session.Line.extended.Statement.{statement}
 use Rattle.console.proofs.session.Line.extended.Tie as tie
 
--- the bytes of a line
+-- the buffer of a line has 80 bytes
 full : (c : tie.Start) → length (c .args .t1 .bytes) ≡ maxLine
 full c = sym (length-map (c .args .t1 .bytes) (λ v. v)) ∙ c .good .0 .1 .1 .0 .1 .0 .1
 
