@@ -11,7 +11,8 @@ use text::line::put_filled;
 use text::part::between;
 use validity::writing::write;
 
-// Writes the fields with so many entries from a place on: number, value, what the bytes written read as and the whole output; then the fields read back.
+// Writes the fields with so many entries from a place on: number, value, what the bytes written read as and the whole output; then the fields
+// read back.
 fn put_written(
     text: &mut [u8],
     at: usize,
