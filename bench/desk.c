@@ -1,7 +1,8 @@
 /*
- * The proved desk beside two plain ones: first that all give the same four figures, then how long each takes.
+ * The proved desk beside two plain ones: first that all give the same five figures, then how long each takes.
  *
- * Exits with 1 where any figure differs, or where a check that the desk has was never met, so that the comparison would be hollow.
+ * Exits with 1 where any figure differs, or where a check that the desk has, or an accepted proof with openings, was never met, so that the
+ * comparison would be hollow.
  */
 #define _POSIX_C_SOURCE 200809L
 #include "desk_plain.h"
@@ -151,15 +152,20 @@ static void damage(struct question *q)
 
 static bool same(vmc_desk_figures a, vmc_desk_figures b)
 {
-    return a.number == b.number && a.value == b.value && a.closing == b.closing && a.place == b.place;
+    return a.number == b.number && a.value == b.value && a.closing == b.closing && a.place == b.place && a.openings == b.openings;
 }
 
-/* Whether all implementations agree on all cases, and every number was met. */
+static void print_figures(const char *name, vmc_desk_figures f)
+{
+    printf("%s %u %u %u %u %u", name, (unsigned)f.number, (unsigned)f.value, (unsigned)f.closing, (unsigned)f.place, (unsigned)f.openings);
+}
+
+/* Whether all implementations agree on all cases, every number was met, and so were openings. */
 static bool compare(struct question *q)
 {
     static const uint32_t most_entries[] = {3, 12, 12, VMC_PROOF_MAX_ENTRIES};
     unsigned long met[NUMBERS] = {0};
-    unsigned long differing = 0;
+    unsigned long differing = 0, with_openings = 0;
 
     /* Bytes that are lent beyond a proof's end are zero or left from an earlier case. */
     memset(q, 0, sizeof *q);
@@ -179,12 +185,16 @@ static bool compare(struct question *q)
         for (int k = 0; k < IMPLEMENTATIONS; k++)
             figures[k] = ask(implementations[k], q);
         met[figures[0].number < NUMBERS ? figures[0].number : 0]++;
+        if (figures[0].openings > 0)
+            with_openings++;
         for (int k = 1; k < IMPLEMENTATIONS; k++) {
             if (same(figures[0], figures[k]) || ++differing > 10)
                 continue;
-            printf("case %d differs: %s %u %u %u %u, %s %u %u %u %u\n", i, names[0], (unsigned)figures[0].number,
-                   (unsigned)figures[0].value, (unsigned)figures[0].closing, (unsigned)figures[0].place, names[k],
-                   (unsigned)figures[k].number, (unsigned)figures[k].value, (unsigned)figures[k].closing, (unsigned)figures[k].place);
+            printf("case %d differs: ", i);
+            print_figures(names[0], figures[0]);
+            printf(", ");
+            print_figures(names[k], figures[k]);
+            printf("\n");
         }
     }
 
@@ -194,9 +204,10 @@ static bool compare(struct question *q)
         printf(" %d:%lu", number, met[number]);
         all_met = all_met && met[number] > 0;
     }
-    printf("\n");
+    printf("; with openings: %lu\n", with_openings);
+    all_met = all_met && with_openings > 0;
     if (!all_met)
-        printf("error: a number was never met\n");
+        printf("error: a number was never met, or openings never were\n");
     return differing == 0 && all_met;
 }
 
@@ -231,7 +242,8 @@ static void measure(const char *title, const struct question *q)
     }
 
     (void)sink;
-    printf("%s: answer %u, value %u\n", title, (unsigned)ask(vmc_desk_verify, q).number, (unsigned)ask(vmc_desk_verify, q).value);
+    vmc_desk_figures figures = ask(vmc_desk_verify, q);
+    printf("%s: answer %u, value %u, openings %u\n", title, (unsigned)figures.number, (unsigned)figures.value, (unsigned)figures.openings);
     for (int k = 0; k < IMPLEMENTATIONS; k++) {
         qsort(times[k], ROUNDS, sizeof times[k][0], by_size);
         median[k] = times[k][ROUNDS / 2];

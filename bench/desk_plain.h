@@ -1,5 +1,5 @@
-/* The desk of document 01 in plain C, to compare and to time the proved one against: the parameters and the answer are those of
- * vmc_desk_verify (include/vmc.h). */
+/* The desk of document 01, with Note 1 of document 02, in plain C, to compare and to time the proved one against: the parameters and the
+ * answer are those of vmc_desk_verify (include/vmc.h). */
 #ifndef DESK_PLAIN_H
 #define DESK_PLAIN_H
 

@@ -1,8 +1,9 @@
 /*
- * The proved host beside two plain ones: first that all give the same two figures and leave the same bytes in image and output, then how
- * long each takes.
+ * The proved host beside two plain ones: first that all give the same figures and leave the same bytes in image and output, then how long
+ * each takes.
  *
- * Exits with 1 where anything differs, or where a call or a number that the host has was never met, so that the comparison would be hollow.
+ * Exits with 1 where anything differs, or where a call or a number that the host has, or a read with openings, was never met, so that the
+ * comparison would be hollow.
  */
 #define _POSIX_C_SOURCE 200809L
 #include "host_plain.h"
@@ -41,51 +42,57 @@ struct buffers {
     uint8_t out[VMC_PROOF_MAX_LEN + SLACK];
 };
 
-static vmc_host_figures ask_proved(struct buffers *b, const struct call *c)
+/* A call's figures as those of a read, the openings 0: only read gives any. */
+static vmc_host_read_figures no_openings(vmc_host_figures figures)
+{
+    return (vmc_host_read_figures){.number = figures.number, .value = figures.value};
+}
+
+static vmc_host_read_figures ask_proved(struct buffers *b, const struct call *c)
 {
     switch (c->kind) {
     case START:
-        return vmc_host_start(b->image, c->image_len, c->reading);
+        return no_openings(vmc_host_start(b->image, c->image_len, c->reading));
     case OPEN:
-        return vmc_host_open(b->image, c->image_len, c->id, c->value, c->reading, c->verdict);
+        return no_openings(vmc_host_open(b->image, c->image_len, c->id, c->value, c->reading, c->verdict));
     case TICK:
-        return vmc_host_tick(b->image, c->image_len, c->nonce, c->nonce_len);
+        return no_openings(vmc_host_tick(b->image, c->image_len, c->nonce, c->nonce_len));
     case INCREMENT:
-        return vmc_host_increment(b->image, c->image_len, c->nonce, c->nonce_len, c->id, c->value, c->verdict);
+        return no_openings(vmc_host_increment(b->image, c->image_len, c->nonce, c->nonce_len, c->id, c->value, c->verdict));
     case READ:
         return vmc_host_read(b->image, c->image_len, c->id);
     case PROVE:
-        return vmc_host_prove(b->image, c->image_len, c->nonce, c->nonce_len, c->id, b->out, c->out_len);
+        return no_openings(vmc_host_prove(b->image, c->image_len, c->nonce, c->nonce_len, c->id, b->out, c->out_len));
     case LAST:
-        return vmc_host_last(b->image, c->image_len, c->id, c->reading, b->out, c->out_len);
+        return no_openings(vmc_host_last(b->image, c->image_len, c->id, c->reading, b->out, c->out_len));
     default:
-        return vmc_host_confirm(b->image, c->image_len, c->id, c->value, c->reading, c->verdict);
+        return no_openings(vmc_host_confirm(b->image, c->image_len, c->id, c->value, c->reading, c->verdict));
     }
 }
 
-static vmc_host_figures ask_plain(enum plain_lookup lookup, struct buffers *b, const struct call *c)
+static vmc_host_read_figures ask_plain(enum plain_lookup lookup, struct buffers *b, const struct call *c)
 {
     switch (c->kind) {
     case START:
-        return plain_host_start(b->image, c->image_len, c->reading);
+        return no_openings(plain_host_start(b->image, c->image_len, c->reading));
     case OPEN:
-        return plain_host_open(lookup, b->image, c->image_len, c->id, c->value, c->reading, c->verdict);
+        return no_openings(plain_host_open(lookup, b->image, c->image_len, c->id, c->value, c->reading, c->verdict));
     case TICK:
-        return plain_host_tick(lookup, b->image, c->image_len, c->nonce, c->nonce_len);
+        return no_openings(plain_host_tick(lookup, b->image, c->image_len, c->nonce, c->nonce_len));
     case INCREMENT:
-        return plain_host_increment(lookup, b->image, c->image_len, c->nonce, c->nonce_len, c->id, c->value, c->verdict);
+        return no_openings(plain_host_increment(lookup, b->image, c->image_len, c->nonce, c->nonce_len, c->id, c->value, c->verdict));
     case READ:
         return plain_host_read(lookup, b->image, c->image_len, c->id);
     case PROVE:
-        return plain_host_prove(lookup, b->image, c->image_len, c->nonce, c->nonce_len, c->id, b->out, c->out_len);
+        return no_openings(plain_host_prove(lookup, b->image, c->image_len, c->nonce, c->nonce_len, c->id, b->out, c->out_len));
     case LAST:
-        return plain_host_last(lookup, b->image, c->image_len, c->id, c->reading, b->out, c->out_len);
+        return no_openings(plain_host_last(lookup, b->image, c->image_len, c->id, c->reading, b->out, c->out_len));
     default:
-        return plain_host_confirm(lookup, b->image, c->image_len, c->id, c->value, c->reading, c->verdict);
+        return no_openings(plain_host_confirm(lookup, b->image, c->image_len, c->id, c->value, c->reading, c->verdict));
     }
 }
 
-static vmc_host_figures ask(int implementation, struct buffers *b, const struct call *c)
+static vmc_host_read_figures ask(int implementation, struct buffers *b, const struct call *c)
 {
     return implementation == 0 ? ask_proved(b, c) : ask_plain(implementation == 1 ? PLAIN_SEARCH : PLAIN_TABLE, b, c);
 }
@@ -179,30 +186,38 @@ static void choose(struct call *c, const uint8_t *image, const struct habit *hab
 /* ---- comparing */
 
 struct tally {
-    unsigned long calls, differing;
+    unsigned long calls, differing, with_openings;
     unsigned long met[NUMBERS];
     unsigned long done[KINDS];
 };
 
+static bool same(vmc_host_read_figures a, vmc_host_read_figures b)
+{
+    return a.number == b.number && a.value == b.value && a.openings == b.openings;
+}
+
 /* Makes one call by all implementations, each on its own buffers, which are the same before. */
 static void compare_call(struct tally *tally, struct buffers *buffers, const struct call *c)
 {
-    vmc_host_figures figures[IMPLEMENTATIONS];
+    vmc_host_read_figures figures[IMPLEMENTATIONS];
     for (int k = 0; k < IMPLEMENTATIONS; k++)
         figures[k] = ask(k, &buffers[k], c);
     tally->calls++;
     tally->met[figures[0].number < NUMBERS ? figures[0].number : 0]++;
     if (figures[0].number == 0)
         tally->done[c->kind]++;
+    if (figures[0].openings > 0)
+        tally->with_openings++;
     for (int k = 1; k < IMPLEMENTATIONS; k++) {
         bool same_image = memcmp(buffers[0].image, buffers[k].image, sizeof buffers[0].image) == 0;
         bool same_out = memcmp(buffers[0].out, buffers[k].out, sizeof buffers[0].out) == 0;
-        if (figures[0].number == figures[k].number && figures[0].value == figures[k].value && same_image && same_out)
+        if (same(figures[0], figures[k]) && same_image && same_out)
             continue;
         if (++tally->differing <= 10)
-            printf("call %lu (kind %d) differs: %s %u %u, %s %u %u%s%s\n", tally->calls, (int)c->kind, names[0],
-                   (unsigned)figures[0].number, (unsigned)figures[0].value, names[k], (unsigned)figures[k].number,
-                   (unsigned)figures[k].value, same_image ? "" : ", image", same_out ? "" : ", output");
+            printf("call %lu (kind %d) differs: %s %u %u %u, %s %u %u %u%s%s\n", tally->calls, (int)c->kind, names[0],
+                   (unsigned)figures[0].number, (unsigned)figures[0].value, (unsigned)figures[0].openings, names[k],
+                   (unsigned)figures[k].number, (unsigned)figures[k].value, (unsigned)figures[k].openings,
+                   same_image ? "" : ", image", same_out ? "" : ", output");
         buffers[k] = buffers[0];
     }
 }
@@ -254,7 +269,7 @@ static void compare_list(struct tally *tally, struct buffers *buffers)
     }
 }
 
-/* Whether all implementations agree on all calls, every number was met, and every call was done at least once. */
+/* Whether all implementations agree on all calls, every number was met, so were openings, and every call was done at least once. */
 static bool compare(struct buffers *buffers)
 {
     struct tally tally = {0};
@@ -271,9 +286,10 @@ static bool compare(struct buffers *buffers)
     }
     for (int kind = 0; kind < KINDS; kind++)
         all_met = all_met && tally.done[kind] > 0;
-    printf("\n");
+    printf("; with openings: %lu\n", tally.with_openings);
+    all_met = all_met && tally.with_openings > 0;
     if (!all_met)
-        printf("error: a number was never met, or a call never done\n");
+        printf("error: a number was never met, openings never were, or a call was never done\n");
     return tally.differing == 0 && all_met;
 }
 
@@ -339,7 +355,7 @@ static void measure(const char *title, struct buffers *b, const struct call *c)
 
     (void)sink;
     memcpy(b->image, kept, sizeof kept);
-    vmc_host_figures figures = ask(0, b, c);
+    vmc_host_read_figures figures = ask(0, b, c);
     memcpy(b->image, kept, sizeof kept);
     printf("%s: answer %u, value %u\n", title, (unsigned)figures.number, (unsigned)figures.value);
     for (int k = 0; k < IMPLEMENTATIONS; k++) {

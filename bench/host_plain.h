@@ -1,5 +1,5 @@
-/* The host of document 01 in plain C, to compare and to time the proved one against: answers and parameters are those of vmc_host_* in
- * include/vmc.h, with `lookup` before them in every call but start. */
+/* The host of document 01, with Note 1 of document 02, in plain C, to compare and to time the proved one against: answers and parameters
+ * are those of vmc_host_* in include/vmc.h, with `lookup` before them in every call but start. */
 #ifndef HOST_PLAIN_H
 #define HOST_PLAIN_H
 
@@ -23,7 +23,7 @@ vmc_host_figures plain_host_tick(enum plain_lookup lookup, uint8_t *image, size_
 vmc_host_figures plain_host_increment(enum plain_lookup lookup, uint8_t *image, size_t image_len, const uint8_t *nonce, size_t nonce_len,
                                       uint32_t id, uint32_t before, uint32_t verdict);
 
-vmc_host_figures plain_host_read(enum plain_lookup lookup, const uint8_t *image, size_t image_len, uint32_t id);
+vmc_host_read_figures plain_host_read(enum plain_lookup lookup, const uint8_t *image, size_t image_len, uint32_t id);
 
 vmc_host_figures plain_host_prove(enum plain_lookup lookup, uint8_t *image, size_t image_len, const uint8_t *nonce, size_t nonce_len,
                                   uint32_t id, uint8_t *out, size_t out_len);

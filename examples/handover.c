@@ -1,7 +1,7 @@
 /*
- * A handover check at a depot: box 7 is handed over, and the sheet shows its counter's value only where the desk accepts the proof.
- * The proof is document 01's case A; the same with the owner's no at entry 1 is case G. Which signatures hold is the station's
- * library's to say: its yes and no are the verdict bytes, which are written out here.
+ * A handover check at a depot: box 7 is handed over, and the sheet shows its counter's value, and how often the box was opened since the
+ * confirmation, only where the desk accepts the proof. The proof is document 01's case A; the same with the owner's no at entry 1 is
+ * case G. Which signatures hold is the station's library's to say: its yes and no are the verdict bytes, which are written out here.
  */
 #include "vmc.h"
 
@@ -92,11 +92,12 @@ static void hand_over(const char *title, const uint8_t *proof, size_t proof_len,
     vmc_desk_figures answer = vmc_desk_verify(proof, proof_len, verdicts, verdicts_len, id, nonce, VMC_NONCE_LEN);
 
     printf("%s\n", title);
-    printf("  number %u, value %u, closing %u, place %u\n", (unsigned)answer.number, (unsigned)answer.value,
-           (unsigned)answer.closing, (unsigned)answer.place);
+    printf("  number %u, value %u, closing %u, place %u, openings %u\n", (unsigned)answer.number, (unsigned)answer.value,
+           (unsigned)answer.closing, (unsigned)answer.place, (unsigned)answer.openings);
     if (answer.number == 0) {
         printf("  Accepted: box %u is handed over at value %u, as of clock reading %u.\n", (unsigned)id, (unsigned)answer.value,
                (unsigned)answer.closing);
+        printf("  Openings since the confirmation: %u.\n", (unsigned)answer.openings);
         return;
     }
     printf("  Refused: %s", answer.number < sizeof refusals / sizeof refusals[0] ? refusals[answer.number] : "unknown number");

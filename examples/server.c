@@ -1,7 +1,7 @@
 /*
  * A server's day: the host keeps an image and sets out proofs, the desk judges them. The first twelve calls are document 01's example of the
- * program, and each prints a line as it does there: number and value, of the desk where a proof was written. Then one more raise, shown by
- * its own increment.
+ * program, and each prints a line as it does there: number and value, of the desk where a proof was written. Behind read's stand its
+ * openings. Then one more raise, shown by its own increment.
  */
 #include "vmc.h"
 
@@ -23,6 +23,11 @@ static void print(uint32_t number, uint32_t value)
 static void answer(vmc_host_figures figures)
 {
     print(figures.number, figures.value);
+}
+
+static void answer_read(vmc_host_read_figures figures)
+{
+    printf("%u %u %u\n", (unsigned)figures.number, (unsigned)figures.value, (unsigned)figures.openings);
 }
 
 /* Hands the proof that a call wrote to the desk, every signature holding. */
@@ -70,7 +75,7 @@ int main(void)
     answer(increment(2, 9, 100));
     answer(increment(3, 7, 100)); /* not the value that it holds by now */
     answer(increment(4, 7, 101));
-    answer(vmc_host_read(image, sizeof image, 7));
+    answer_read(vmc_host_read(image, sizeof image, 7));
     show(prove(5, 9), 9, nonce(5));
     answer(vmc_host_confirm(image, sizeof image, 7, 103, 103, 1));
     answer(vmc_host_confirm(image, sizeof image, 9, 102, 103, 1));

@@ -1,5 +1,5 @@
 #!/usr/bin/env python3
-# The expected output of the program desk_cases, from document 01 alone: a byte writer and a desk of its own.
+# The expected output of the program desk_cases, from document 01 and Note 1 of document 02 alone: a byte writer and a desk of its own.
 import sys
 
 MAX = 4294967295
@@ -31,7 +31,8 @@ def write(kind, conf, cert, entries):
     assert len(s) == log + 32 * n
     return bytearray(s)
 
-# ---- document 01, "The desk": every rule that applies is collected, and the first in number order is the answer
+# ---- document 01, "The desk": every rule that applies is collected, and the first in number order is the answer. Its figures are number,
+# value, closing reading, place and openings: how many entries of the proof, all of which are after its confirmation, are the wanted box's
 
 def desk(s, verdicts, box, wanted):
     u = lambda at, size=4: int.from_bytes(s[at:at + size], 'big')
@@ -82,15 +83,15 @@ def desk(s, verdicts, box, wanted):
     for i in range(1, n + 1):
         if es[i - 1][2] == box and at(before + 2 * (i - 1) + 1) == 0:
             broken.append((12, i, i))
-    running = v
+    running, openings = v, 0
     for i in range(1, n + 1):
         t, _, b, bef = es[i - 1]
         if b == box:
             if bef != running:
                 broken.append((13, i, i))
-            running = t
+            running, openings = t, openings + 1
     T = u(36) if kind == 1 else es[-1][0]
-    return pick(broken, (0, running, T, 0))
+    return pick(broken, (0, running, T, 0, openings))
 
 LAST = []                # the numbers of every rule that the last case broke
 
@@ -101,7 +102,7 @@ def pick(broken, good):
     if not broken:
         return good
     number, _, place = min(broken)
-    return (number, 0, 0, place)
+    return (number, 0, 0, place, 0)
 
 # ---- the cases
 
@@ -141,24 +142,24 @@ def case(label, want=None, kind=1, conf=(7, 100, 100), cert=103, log=P, no=(), v
         singles.add(got[0])
         for other in LAST[1:]:
             pairs.add((got[0], other))
-    lines.append('%s: %d %d %d %d' % ((label,) + got))
+    lines.append('%s: %d %d %d %d %d' % ((label,) + got))
 
 # where a verdict stands in kind 1 and in kind 2: module's and owner's of entry i
 def m(i, kind=1): return {1: 2, 2: 1}[kind] + 2 * (i - 1)
 def o(i, kind=1): return m(i, kind) + 1
 
-# ---- document 01, "Twelve proofs at the desk": number, value, place asserted
-def doc(label, number, value, place, **k):
+# ---- document 01, "Twelve proofs at the desk": number, value, place asserted, and the openings, 0 where none are given
+def doc(label, number, value, place, openings=0, **k):
     case(label, **k)
     f = lines[-1].split(': ')[-1].split()
-    assert (int(f[0]), int(f[1]), int(f[3])) == (number, value, place), lines[-1]
+    assert (int(f[0]), int(f[1]), int(f[3]), int(f[4])) == (number, value, place, openings), lines[-1]
 
-doc('A', 0, 103, 0)
+doc('A', 0, 103, 0, openings=2)
 doc('B', 0, 100, 0, log=[], cert=100)
 doc('C', 11, 0, 1, log=[], cert=99)
 doc('D', 13, 0, 3, log=[E1, E2, entry(103, 3, 7, 100)])
 doc('E', 11, 0, 2, log=[E1, E3])
-doc('F', 0, 103, 0, no=[o(2)])
+doc('F', 0, 103, 0, openings=2, no=[o(2)])
 doc('G', 12, 0, 1, no=[o(1)])
 doc('H', 10, 0, 0, wanted=nonce(6))
 doc('I', 7, 0, 0, conf=(7, 101, 100))
@@ -166,46 +167,55 @@ doc('J', 10, 0, 0, kind=2, log=[E1, E2], wanted=nonce(5))
 doc('K', 0, 4294967295, 0, conf=(7, MAX, MAX), cert=MAX, log=[])
 doc('L', 11, 0, 1, conf=(7, MAX, MAX), cert=0, log=[entry(0, 1, 7, MAX)])
 
-# ---- vectors/desk.md, its figures asserted
-case('P as it stands', (0, 103, 103, 0))
-case('forged clock certificate', (9, 0, 0, 0), no=[1])
-case('forged entry 2', (9, 0, 0, 2), no=[m(2)])
-case('forged certificate and entry 1', (9, 0, 0, 0), no=[1, m(1)])
-case('forged entry 3, t of entry 1 wrong', (9, 0, 0, 3), no=[m(3)], log=[entry(105, 1, 7, 100), E2, E3])
-case('own increment hidden under counter 9', (0, 101, 103, 0), log=[E1, E2, entry(103, 3, 9, 101)])
-case('first entry left out', (11, 0, 0, 1), log=[E2, E3])
-case('last entry left out', (11, 0, 0, 3), log=[E1, E2])
-case('last entry left out, certificate 102', (0, 101, 102, 0), log=[E1, E2], cert=102)
-case('entry 1 twice', (11, 0, 0, 2), log=[E1, E1, E2, E3])
-case('entries 1 and 2 exchanged', (11, 0, 0, 1), log=[E2, E1, E3])
-case('one entry past the certificate', (11, 0, 0, 5), log=[E1, E2, E3, entry(104, 4, 9, 102)])
-case("t of entry 2, another counter's, wrong", (11, 0, 0, 2), log=[E1, entry(150, 2, 9, 100), E3])
-case('confirmation of counter 9', (7, 0, 0, 0), conf=(9, 100, 100))
-case("confirmation's verdict no", (8, 0, 0, 0), no=[0])
-case('confirmation (7, 101, 102)', (0, 103, 103, 0), conf=(7, 101, 102), log=[E3])
-case('confirmation (7, 100, 102)', (13, 0, 0, 1), conf=(7, 100, 102), log=[E3])
-case('confirmation (7, 101, 104)', (11, 0, 0, 1), conf=(7, 101, 104), log=[])
+# ---- vectors/desk.md, its figures asserted, with the openings of vectors/note1.md
+case('P as it stands', (0, 103, 103, 0, 2))
+case('forged clock certificate', (9, 0, 0, 0, 0), no=[1])
+case('forged entry 2', (9, 0, 0, 2, 0), no=[m(2)])
+case('forged certificate and entry 1', (9, 0, 0, 0, 0), no=[1, m(1)])
+case('forged entry 3, t of entry 1 wrong', (9, 0, 0, 3, 0), no=[m(3)], log=[entry(105, 1, 7, 100), E2, E3])
+case('own increment hidden under counter 9', (0, 101, 103, 0, 1), log=[E1, E2, entry(103, 3, 9, 101)])
+case('first entry left out', (11, 0, 0, 1, 0), log=[E2, E3])
+case('last entry left out', (11, 0, 0, 3, 0), log=[E1, E2])
+case('last entry left out, certificate 102', (0, 101, 102, 0, 1), log=[E1, E2], cert=102)
+case('entry 1 twice', (11, 0, 0, 2, 0), log=[E1, E1, E2, E3])
+case('entries 1 and 2 exchanged', (11, 0, 0, 1, 0), log=[E2, E1, E3])
+case('one entry past the certificate', (11, 0, 0, 5, 0), log=[E1, E2, E3, entry(104, 4, 9, 102)])
+case("t of entry 2, another counter's, wrong", (11, 0, 0, 2, 0), log=[E1, entry(150, 2, 9, 100), E3])
+case('confirmation of counter 9', (7, 0, 0, 0, 0), conf=(9, 100, 100))
+case("confirmation's verdict no", (8, 0, 0, 0, 0), no=[0])
+case('confirmation (7, 101, 102)', (0, 103, 103, 0, 1), conf=(7, 101, 102), log=[E3])
+case('confirmation (7, 100, 102)', (13, 0, 0, 1, 0), conf=(7, 100, 102), log=[E3])
+case('confirmation (7, 101, 104)', (11, 0, 0, 1, 0), conf=(7, 101, 104), log=[])
 W1 = entry(101, 1, 7, 99)
-case("owner's no at entry 3, value before wrong at entry 1", (12, 0, 0, 3), log=[W1, E2, E3], no=[o(3)], breaks=[12, 13])
-case('value before wrong at entry 1', (13, 0, 0, 1), log=[W1, E2, E3])
-case("another counter's value before is free", (0, 103, 103, 0), log=[E1, entry(102, 2, 9, 77), E3])
-case('counter 0 with value 5', (0, 103, 103, 0), log=[E1, entry(102, 2, 0, 5), E3])
-case('kind 2, closing on entry 3', (0, 103, 103, 0), kind=2)
-case('kind 2, another nonce wanted', (10, 0, 0, 0), kind=2, wanted=nonce(6))
-case("kind 2, the wanted nonce in another counter's entry", (10, 0, 0, 0), kind=2, log=[E1, E2], wanted=nonce(2))
-case("kind 2, owner's no at the last entry", (12, 0, 0, 3), kind=2, no=[o(3, 2)])
-case('kind 2, last t wrong', (11, 0, 0, 3), kind=2, log=[E1, E2, entry(104, 3, 7, 101)])
+case("owner's no at entry 3, value before wrong at entry 1", (12, 0, 0, 3, 0), log=[W1, E2, E3], no=[o(3)], breaks=[12, 13])
+case('value before wrong at entry 1', (13, 0, 0, 1, 0), log=[W1, E2, E3])
+case("another counter's value before is free", (0, 103, 103, 0, 2), log=[E1, entry(102, 2, 9, 77), E3])
+case('counter 0 with value 5', (0, 103, 103, 0, 2), log=[E1, entry(102, 2, 0, 5), E3])
+case('kind 2, closing on entry 3', (0, 103, 103, 0, 2), kind=2)
+case('kind 2, another nonce wanted', (10, 0, 0, 0, 0), kind=2, wanted=nonce(6))
+case("kind 2, the wanted nonce in another counter's entry", (10, 0, 0, 0, 0), kind=2, log=[E1, E2], wanted=nonce(2))
+case("kind 2, owner's no at the last entry", (12, 0, 0, 3, 0), kind=2, no=[o(3, 2)])
+case('kind 2, last t wrong', (11, 0, 0, 3, 0), kind=2, log=[E1, E2, entry(104, 3, 7, 101)])
 N = MAX - 1
-case('wrap', (11, 0, 0, 2), conf=(7, N, N), cert=0, log=[entry(MAX, 1, 7, N), entry(0, 2, 7, MAX)])
-case('the last reading', (0, MAX, MAX, 0), conf=(7, N, N), cert=MAX, log=[entry(MAX, 1, 7, N)])
-case('wanted counter 0', (1, 0, 0, 0), box=0)
-case('wanted nonce of 19 bytes', (1, 0, 0, 0), wanted=nonce(5, 19))
+case('wrap', (11, 0, 0, 2, 0), conf=(7, N, N), cert=0, log=[entry(MAX, 1, 7, N), entry(0, 2, 7, MAX)])
+case('the last reading', (0, MAX, MAX, 0, 1), conf=(7, N, N), cert=MAX, log=[entry(MAX, 1, 7, N)])
+case('wanted counter 0', (1, 0, 0, 0, 0), box=0)
+case('wanted nonce of 19 bytes', (1, 0, 0, 0, 0), wanted=nonce(5, 19))
 v = yes(1, 3); v[o(2)] = 2
-case("verdict 2 at another counter's owner", (6, 0, 0, 0), verdicts=v)
-case('verdict list one byte too long', (6, 0, 0, 0), verdicts=yes(1, 3) + b'\1')
+case("verdict 2 at another counter's owner", (6, 0, 0, 0, 0), verdicts=v)
+case('verdict list one byte too long', (6, 0, 0, 0, 0), verdicts=yes(1, 3) + b'\1')
 
-# ---- cases of our own, number and place asserted by hand
-R = lambda number, place=0: (number, 0, 0, place)
+# ---- the further rows of vectors/note1.md
+case('openings after the confirmation (7, 101, 101)', (0, 103, 103, 0, 1), conf=(7, 101, 101), log=[E2, E3])
+case('no openings after the confirmation (7, 103, 103)', (0, 103, 103, 0, 0), conf=(7, 103, 103), log=[])
+case('openings of counter 9', (0, 102, 103, 0, 1), conf=(9, 100, 100), box=9)
+case('no openings of counter 8', (0, 100, 103, 0, 0), conf=(8, 100, 100), box=8)
+case('openings in kind 2, entry 101 only', (0, 101, 101, 0, 1), kind=2, log=[E1], wanted=nonce(1))
+case("openings, every entry the counter's", (0, 103, 103, 0, 3), log=[E1, entry(102, 2, 7, 101), entry(103, 3, 7, 102)])
+case('openings, value below reading', (0, 103, 103, 0, 2), conf=(7, 90, 100), log=[entry(101, 1, 7, 90), E2, E3])
+
+# ---- cases of our own, their figures asserted by hand
+R = lambda number, place=0: (number, 0, 0, place, 0)
 NONE = bytearray()
 case('1, nonce of 21 bytes', R(1), wanted=nonce(5, 21))
 case('1, empty nonce', R(1), wanted=b'')
@@ -274,21 +284,23 @@ case('10 and 11, kind 2, nonce', R(10), kind=2, wanted=nonce(6), log=EARLY, brea
 case('10 and 11, kind 2, counter', R(10), kind=2, log=[entry(102, 1, 7, 100), E2, entry(103, 3, 9, 101)], breaks=[10, 11])
 case('11 and 12, kind 2', R(11, 1), kind=2, log=EARLY, no=[o(1, 2), o(3, 2)], breaks=[11, 12])
 case('13, kind 2', R(13, 3), kind=2, log=[E1, E2, entry(103, 3, 7, 100)])
-case('kind 2, one entry', (0, 101, 101, 0), kind=2, log=[entry(101, 3, 7, 100)])
-case('kind 2, the last reading', (0, MAX, MAX, 0), kind=2, conf=(7, N, N), log=[entry(MAX, 3, 7, N)])
+case('kind 2, one entry', (0, 101, 101, 0, 1), kind=2, log=[entry(101, 3, 7, 100)])
+case('kind 2, the last reading', (0, MAX, MAX, 0, 1), kind=2, conf=(7, N, N), log=[entry(MAX, 3, 7, N)])
 case('kind 2, wrap', R(11, 1), kind=2, conf=(7, MAX, MAX), log=[entry(0, 3, 7, MAX)])
-case('value below reading', (0, 50, 100, 0), conf=(7, 50, 100), cert=100, log=[])
-case('all 0', (0, 0, 0, 0), conf=(7, 0, 0), cert=0, log=[])
-case('no entry of its own', (0, 100, 102, 0), cert=102, log=[entry(101, 1, 0, 0), E2], no=[o(1), o(2)])
-case('counter 9 wanted', (0, 102, 103, 0), conf=(9, 100, 100), box=9, no=[o(1), o(3)])
-case('highest counter', (0, 100, 100, 0), conf=(MAX, 100, 100), cert=100, log=[], box=MAX)
+case('value below reading', (0, 50, 100, 0, 0), conf=(7, 50, 100), cert=100, log=[])
+case('all 0', (0, 0, 0, 0, 0), conf=(7, 0, 0), cert=0, log=[])
+case('no entry of its own', (0, 100, 102, 0, 0), cert=102, log=[entry(101, 1, 0, 0), E2], no=[o(1), o(2)])
+case('counter 9 wanted', (0, 102, 103, 0, 1), conf=(9, 100, 100), box=9, no=[o(1), o(3)])
+case('highest counter', (0, 100, 100, 0, 0), conf=(MAX, 100, 100), cert=100, log=[], box=MAX)
 
-# ---- the last row of vectors/desk.md, and its neighbours
+# ---- the rows of 1,024 entries in vectors/note1.md and vectors/desk.md, and their neighbours
+OWN = [entry(100 + i, i % 256, 7, 99 + i) for i in range(1, 1025)]
+case("1,024 entries, all the counter's", (0, 1124, 1124, 0, 1024), cert=1124, log=OWN)
 LONG = [entry(100 + i, i % 256, 7 if i % 64 == 0 else 9, 36 + i) for i in range(1, 1025)]
-case('1,024 entries', (0, 1124, 1124, 0), cert=1124, log=LONG)
-case('1,024 entries, kind 2', (0, 1124, 1124, 0), kind=2, log=LONG, wanted=nonce(0))
-case('12, entry 1,024', (12, 0, 0, 1024), cert=1124, log=LONG, no=[o(1024)])
-case('11 and 12, certificate behind 1,024 entries', (11, 0, 0, 1025), cert=1125, log=LONG, no=[o(1024)], breaks=[11, 12])
+case('1,024 entries', (0, 1124, 1124, 0, 16), cert=1124, log=LONG)
+case('1,024 entries, kind 2', (0, 1124, 1124, 0, 16), kind=2, log=LONG, wanted=nonce(0))
+case('12, entry 1,024', R(12, 1024), cert=1124, log=LONG, no=[o(1024)])
+case('11 and 12, certificate behind 1,024 entries', R(11, 1025), cert=1125, log=LONG, no=[o(1024)], breaks=[11, 12])
 
 assert singles == set(range(1, 14)), singles
 missing = [(a, a + 1) for a in range(1, 13) if (a, a + 1) not in pairs]

@@ -1,6 +1,6 @@
 /*
  * The desk and the host for C and C++: document 01's "The desk", which verifies a validity proof of a counter, and "The host", which keeps
- * the server's log image and sets such proofs out. (Document 01 calls a counter a box.)
+ * the server's log image and sets such proofs out; the openings are those of Note 1 of document 02. (The documents call a counter a box.)
  *
  * To link, on x86-64 Linux, from the top of the repository:
  *
@@ -49,12 +49,14 @@ extern "C" {
  * value: the counter's value at the closing reading where accepted, else 0.
  * closing: the clock reading that the proof closes on where accepted, else 0.
  * place: the entry that is refused, counted from 1, by 9, 11, 12 and 13, with the two exceptions above; else 0.
+ * openings: how often the counter was raised after the proof's own confirmation, up to the closing reading; 0 where the proof is refused.
  */
 typedef struct vmc_desk_figures {
     uint32_t number;
     uint32_t value;
     uint32_t closing;
     uint32_t place;
+    uint32_t openings;
 } vmc_desk_figures;
 
 /*
@@ -84,7 +86,7 @@ vmc_desk_figures vmc_desk_verify(const uint8_t *proof, size_t proof_len,
 #define VMC_IMAGE_LEN 33564u
 
 /*
- * A host call's answer.
+ * A host call's answer; read has one of its own, with a figure more.
  *
  * number: 0 where the call is done, else the first of these, in this order, that refuses it.
  *
@@ -111,6 +113,18 @@ typedef struct vmc_host_figures {
 } vmc_host_figures;
 
 /*
+ * read's answer.
+ *
+ * number, value: as above.
+ * openings: how often the counter was raised after its held confirmation, up to the clock; 0 where the call is refused.
+ */
+typedef struct vmc_host_read_figures {
+    uint32_t number;
+    uint32_t value;
+    uint32_t openings;
+} vmc_host_read_figures;
+
+/*
  * The calls. The image is the caller's to keep: each call gets it as the last one left it, and nobody else writes it. Every call but start
  * looks first whether it is sound, whatever it holds.
  *
@@ -132,8 +146,8 @@ vmc_host_figures vmc_host_tick(uint8_t *image, size_t image_len, const uint8_t *
 vmc_host_figures vmc_host_increment(uint8_t *image, size_t image_len, const uint8_t *nonce, size_t nonce_len, uint32_t id, uint32_t before,
                                     uint32_t verdict);
 
-/* Gives a counter's current value. Nothing is written. */
-vmc_host_figures vmc_host_read(const uint8_t *image, size_t image_len, uint32_t id);
+/* Gives a counter's current value, and its openings. Nothing is written. */
+vmc_host_read_figures vmc_host_read(const uint8_t *image, size_t image_len, uint32_t id);
 
 /* Writes a proof of kind 1 up to the clock, which was read with the nonce, to the front of the output. Gives its length. */
 vmc_host_figures vmc_host_prove(uint8_t *image, size_t image_len, const uint8_t *nonce, size_t nonce_len, uint32_t id, uint8_t *out,

@@ -10,7 +10,7 @@ use lib.Seq.{drop-at, take-all}
 use borrow.Author.Tests.{eq-eqb, ne-eqb}
 use Rattle.forms.specs.Bytes.{same, window}
 use Rattle.forms.specs.BytesLaws.{same-refl, window-part}
-use Rattle.forms.specs.Chain.{valueAfter, chains}
+use Rattle.forms.specs.Chain.{fromValue, runningAfter, chains}
 use Rattle.forms.specs.Entry.{entryAt, entriesAt, logBytes}
 use Rattle.forms.specs.Limits.{nonceLen, entryLen, maxEntries}
 use Rattle.forms.specs.PartsLaws.{ConfirmationFits, EntriesFit, entries-drop, entries-snoc, length-entries, log-bytes, length-log}
@@ -132,15 +132,15 @@ module _ (id : CounterId) (nonce : List ℕ) (c : Confirmation) (es : List Entry
       → closesElsewhere (record { kind = kind; count = length es }) s id nonce ≡ false
       → wrongClosing (record { kind = kind; count = length es }) s ≡ false
       → verified s (ones (verdictsBefore kind + 2 * length es)) id nonce
-      ≡ Answer.Accepted (valueAfter id (c .value) es) (closing (record { kind = kind; count = length es }) s)
+      ≡ Answer.Accepted (runningAfter id (fromValue (c .value)) es) (closing (record { kind = kind; count = length es }) s)
   back-accepted kind s confirms entries reads ends closes =
       clean-verified kind (length es) s id nonce (back-clean kind s confirms entries ends closes) (wanted-passes id nonce wanted) reads
-      ∙ ap₂ (λ (k : Confirmation) (l : List Entry). Answer.Accepted (valueAfter id (k .value) l) (closing (record { kind = kind; count = length es }) s))
+      ∙ ap₂ (λ (k : Confirmation) (l : List Entry). Answer.Accepted (runningAfter id (fromValue (k .value)) l) (closing (record { kind = kind; count = length es }) s))
       confirms entries
 
   -- a proof of kind 1, up to the certificate's reading
   pub read-accepted : (k : Certificate) → k .nonce ≡ nonce → k .reading .0 ≡ c .reading .0 + length es → k .reading .0 < 2 ^ 32
-      → verified (encode (read c k (length es) (logBytes es))) (ones (2 + 2 * length es)) id nonce ≡ Answer.Accepted (valueAfter id (c .value) es) (k .reading)
+      → verified (encode (read c k (length es) (logBytes es))) (ones (2 + 2 * length es)) id nonce ≡ Answer.Accepted (runningAfter id (fromValue (c .value)) es) (k .reading)
   unfolding closesElsewhere wrongClosing closing
   read-accepted k asked reached fits =
       let s = encode (read c k (length es) (logBytes es)) in
@@ -150,11 +150,11 @@ module _ (id : CounterId) (nonce : List ℕ) (c : Confirmation) (es : List Entry
       (nonce-same (certificate s .nonce) nonce (wanted .long) (ap (λ (j : Certificate). j .nonce) (back .1) ∙ asked))
       (ap not (eq-eqb (certificate s .reading .0) (confirmation s .reading .0 + length es)
       (ap (λ (j : Certificate). j .reading .0) (back .1) ∙ reached ∙ ap (λ (j : Confirmation). j .reading .0 + length es) (sym (back .0)))))
-      ∙ ap (λ (j : Certificate). Answer.Accepted (valueAfter id (c .value) es) (j .reading)) (back .1)
+      ∙ ap (λ (j : Certificate). Answer.Accepted (runningAfter id (fromValue (c .value)) es) (j .reading)) (back .1)
 
   -- a proof of kind 2, up to the last entry's reading
   pub increment-accepted : (front : List Entry) (last : Entry) → es ≡ front ++ (last ∷ []) → last .id ≡ id → last .nonce ≡ nonce
-      → verified (encode (increment c (length es) (logBytes es))) (ones (1 + 2 * length es)) id nonce ≡ Answer.Accepted (valueAfter id (c .value) es) (last .reading)
+      → verified (encode (increment c (length es) (logBytes es))) (ones (1 + 2 * length es)) id nonce ≡ Answer.Accepted (runningAfter id (fromValue (c .value)) es) (last .reading)
   unfolding closesElsewhere wrongClosing closing
   increment-accepted front last ends own asked =
       let s = encode (increment c (length es) (logBytes es)) in
@@ -168,4 +168,4 @@ module _ (id : CounterId) (nonce : List ℕ) (c : Confirmation) (es : List Entry
       (eq-eqb (entry s (logOffset Kind.Increment) (length es) .id .0) (id .0) (ap (λ (e : Entry). e .id .0) end ∙ ap (λ (i : CounterId). i .0) own))
       (nonce-same (entry s (logOffset Kind.Increment) (length es) .nonce) nonce (wanted .long) (ap (λ (e : Entry). e .nonce) end ∙ asked)))
       refl
-      ∙ ap (λ (e : Entry). Answer.Accepted (valueAfter id (c .value) es) (e .reading)) end
+      ∙ ap (λ (e : Entry). Answer.Accepted (runningAfter id (fromValue (c .value)) es) (e .reading)) end

@@ -8,8 +8,8 @@ use native.Mathlib.Omega.{arith}
 use lib.Dec.{eqb}
 use lib.ListN.{getD, replicate, length-replicate, getD-replicate}
 use borrow.Author.Tests.{eqb-true, eq-eqb, le-ltb}
-use Rattle.forms.specs.Chain.{step, follows, valueAfter, chains}
-use Rattle.forms.specs.ChainLaws.{chains-cons}
+use Rattle.forms.specs.Chain.{follows, runningAfter, valueAfter, chains}
+use Rattle.forms.specs.ChainLaws.{chains-cons, value-cons, valueStep}
 use Rattle.forms.specs.Checks.{Row, firstOf}
 use Rattle.forms.specs.Entry.{entryAt, entriesAt}
 use Rattle.forms.specs.Limits.{entryLen}
@@ -105,24 +105,24 @@ entry-reading s log (suc n) g steps (suc k) within =
 
 -- the first entry follows, and the others chain behind it
 first-follows : (s : List ℕ) (log n : ℕ) (id : CounterId) (value : ℕ) → chains id value (entriesAt s log (suc n)) ≡ true
-    → (follows id value (entryAt s log) ≡ true) × (chains id (step id value (entryAt s log)) (entriesAt s (log + entryLen) n) ≡ true)
+    → (follows id value (entryAt s log) ≡ true) × (chains id (valueStep id value (entryAt s log)) (entriesAt s (log + entryLen) n) ≡ true)
 unfolding entriesAt
 first-follows s log n id value chain =
-    both (follows id value (entryAt s log)) (chains id (step id value (entryAt s log)) (entriesAt s (log + entryLen) n))
+    both (follows id value (entryAt s log)) (chains id (valueStep id value (entryAt s log)) (entriesAt s (log + entryLen) n))
     (sym (chains-cons id value (entryAt s log) (entriesAt s (log + entryLen) n)) ∙ chain)
 
 -- entries that chain follow the running value before each of them
 pub entry-follows : (s : List ℕ) (log n : ℕ) (id : CounterId) (value : ℕ) → chains id value (entriesAt s log n) ≡ true
     → (k : ℕ) → k < n → follows id (valueAfter id value (entriesAt s log k)) (entryAt s (log + entryLen * k)) ≡ true
-unfolding entriesAt valueAfter
+unfolding entriesAt valueAfter runningAfter
 entry-follows s log zero id value chain k within = let no : ⊥ = omega arith in absurd no
 entry-follows s log (suc n) id value chain zero within =
     let here : log + entryLen * zero ≡ log = omega arith in
     ap (λ (j : ℕ). follows id value (entryAt s j)) here ∙ first-follows s log n id value chain .0
 entry-follows s log (suc n) id value chain (suc k) within =
     let there : log + entryLen * suc k ≡ log + entryLen + entryLen * k = omega arith in
-    ap (λ (j : ℕ). follows id (valueAfter id value (entriesAt s log (suc k))) (entryAt s j)) there
-    ∙ entry-follows s (log + entryLen) n id (step id value (entryAt s log)) (first-follows s log n id value chain .1) k (omega arith)
+    ap₂ (λ (v j : ℕ). follows id v (entryAt s j)) (value-cons id value (entryAt s log) (entriesAt s (log + entryLen) k)) there
+    ∙ entry-follows s (log + entryLen) n id (valueStep id value (entryAt s log)) (first-follows s log n id value chain .1) k (omega arith)
 
 -- ---- bytes that read as a proof
 

@@ -1,10 +1,11 @@
 -- What an accepted call has shown: number 0 means that no row of the desk's table held, and here is what that says of the proof, of its
--- verdicts, and of the value and the closing reading. Assumes nothing.
+-- verdicts, and of the value, the openings and the closing reading. Assumes nothing.
 use Prim.Native.Nat.{ℕ, _+_, _≤_}
 use mathlib.Core.Path.{_≡_, refl, sym, ap, _∙_}
 use mathlib.Core.Bool.{Bool, true, false, cond}
 use lib.ListN.{length, getD}
-use Rattle.forms.specs.Chain.{follows, valueAfter}
+use Rattle.forms.specs.Chain.{fromValue, follows, runningAfter}
+use Rattle.forms.specs.declared.running.Running.{Running}
 use Rattle.forms.specs.Entry.{entriesAt}
 use Rattle.forms.specs.Limits.{nonceLen}
 use Rattle.forms.specs.Terms.{globalClock}
@@ -24,6 +25,10 @@ use Rattle.assurance.specs.Rows.{test, refusal-passed, rows-passed, answ
 -- how many entries the proof of a call has
 abbrev pub countOf : Call → ℕ
 countOf c = shapeAt (c .proof) .count
+
+-- value and openings that a call shows
+abbrev pub runningOf : Call → Running
+runningOf c = record { value = shown c .value; openings = shown c .openings }
 
 -- what the table says of an accepted call, in its order
 pub record Passed (c : Call) : Type 0 where
@@ -57,7 +62,7 @@ pub record Passed (c : Call) : Type 0 where
   pub chained : (k : ℕ) → 1 ≤ k → k ≤ countOf c
       → follows (c .id) (valueBefore (c .proof) (logOffset (kindOf c)) (c .id) (confirmation (c .proof) .value) k) (entryOf c k) ≡ true
   -- what is shown
-  pub value : shown c .value ≡ valueAfter (c .id) (confirmation (c .proof) .value) (entriesAt (c .proof) (logOffset (kindOf c)) (countOf c))
+  pub running : runningOf c ≡ runningAfter (c .id) (fromValue (confirmation (c .proof) .value)) (entriesAt (c .proof) (logOffset (kindOf c)) (countOf c))
   pub closing : closes c ≡ globalClock (confirmation (c .proof) .reading .0 + countOf c)
 
 -- an answer with number 0 was given to bytes that read as a proof
@@ -152,6 +157,6 @@ module _ (c : Call) (is-accepted : Accepted c) where
         chained =
             chain-right s log (c .id) (confirmation s .value) n
             (lowest-clear (breaksChain s log (c .id) (confirmation s .value)) n (none-lowest _ (later-passed 9)));
-        value = ap (λ (a : Answer). figures a .value) answered;
+        running = ap (λ (a : Answer). record { value = figures a .value; openings = figures a .openings }) answered;
         closing = closed ∙ ends;
       }

@@ -1,5 +1,5 @@
--- An example of the desk's list, with the calls in it: a clock read, a tick, requests of two counters of which one is unsigned, two accepted
--- calls of which the second goes on from the first, and a refused one. DeskWitness.antt says what holds of it. Assumes nothing.
+-- An example of the desk's list, with the calls in it: clock reads, a tick, requests of two counters of which one is unsigned, four accepted
+-- calls, of which the second goes on from the first, and a refused one. DeskWitness.antt says what holds of it. Assumes nothing.
 use Prim.Native.Nat.{ℕ}
 use mathlib.Core.Bool.{not}
 use mathlib.Core.List.{List, [], _∷_}
@@ -88,6 +88,30 @@ by-increment =
       nonce = nonce 4;
     }
 
+-- a kind 1 proof from the opening on, over readings 101 to 105: both raises of counter 7
+unfoldable pub since-opening : Call
+since-opening =
+    record {
+      proof =
+          encode
+          (Fields.read opening (record { reading = globalClock 105; nonce = nonce 7 }) 5
+          (logBytes
+          (entryFor 101 1 seven 100 ∷ entryFor 102 2 nine 100 ∷ entryFor 103 3 (counterId 0) 0 ∷ entryFor 104 4 seven 101 ∷ entryFor 105 6 nine 100 ∷ [])));
+      verdicts = 1 ∷ 1 ∷ 1 ∷ 1 ∷ 1 ∷ 0 ∷ 1 ∷ 0 ∷ 1 ∷ 1 ∷ 1 ∷ 0 ∷ [];
+      id = seven;
+      nonce = nonce 7;
+    }
+
+-- a kind 1 proof without entries, from the later confirmation on
+unfoldable pub unraised : Call
+unraised =
+    record {
+      proof = encode (Fields.read later (record { reading = globalClock 103; nonce = nonce 5 }) 0 []);
+      verdicts = 1 ∷ 1 ∷ [];
+      id = seven;
+      nonce = nonce 5;
+    }
+
 -- ---- the list
 
 -- the items by place, from 0; the clock goes from 100 to 105
@@ -105,4 +129,7 @@ items =
     ∷ event (increment (Carried.Request seven 101) (nonce 4))
     ∷ call by-increment
     ∷ event (increment (Carried.Request nine 100) (nonce 6))
+    ∷ event (clockRead (nonce 7))
+    ∷ call since-opening
+    ∷ call unraised
     ∷ []

@@ -17,6 +17,7 @@ use Rattle.validity.specs.Proof.{logOffset, shapeAt}
 use Rattle.validity.specs.declared.proof.Kind.{Kind}
 use Rattle.history.specs.History.{clockAfter, Made, made, unmade, incrementAt, ReadStands}
 use Rattle.history.specs.Nonce.{New}
+use Rattle.history.specs.Openings.{openingsBetween}
 use Rattle.history.specs.Value.{Signatures, Request, valueAt}
 use Rattle.desk.specs.Answer.{figures}
 use Rattle.desk.specs.declared.answer.Figures.{Figures}
@@ -50,7 +51,7 @@ history (call c ∷ l) = history l
 
 -- ---- what the desk answers
 
--- the four figures that the desk's contract gives
+-- the five figures that the desk's contract gives
 abbrev pub shown : Call → Figures
 shown c = figures (verified (c .proof) (c .verdicts) (c .id) (c .nonce))
 
@@ -127,13 +128,15 @@ pub record Supposed (first : GlobalClock) (signed : Signatures) (l : List Item) 
 
 -- ---- the claim
 
--- the value shown is the one that the history gives the counter at the reading that the proof closes on
+-- the value shown is the one that the history gives the counter at the reading that the proof closes on; the openings shown are "the history's
+-- number of increments after g, the reading of the proof's confirmation, up to T with an owner-signed request for the box"
 pub record Sound (first : GlobalClock) (signed : Signatures) (l : List Item) (c : Call) : Type 0 where
   pub place : ℕ
   pub opening : Confirmation
   pub opens : Opening l (c .id) place opening
   pub within : opening .reading .0 ≤ closes c .0
   pub value : shown c .value ≡ valueAt signed (c .id) first (history l) (opening .reading) (closes c)
+  pub openings : shown c .openings ≡ openingsBetween signed (c .id) first (history l) (confirmation (c .proof) .reading) (closes c)
 
 -- that reading is no lower than the clock was at any place of the list where the wanted nonce was still new to the module
 abbrev pub Fresh : GlobalClock → List Item → Call → Type 0

@@ -1,21 +1,25 @@
 -- Each accepted call shows the value that the history gives its counter at the reading that the proof closes on, by induction on its place:
--- its confirmation is the counter's opening or was made from a proof accepted before. Nothing is supposed of what stands after the
--- call. Assumes nothing.
-use Prim.Native.Nat.{ℕ, zero, suc, _≤_, _<_}
+-- its confirmation is the counter's opening or was made from a proof accepted before. It shows the history's openings since that
+-- confirmation. Nothing is supposed of what stands after the call. Assumes nothing.
+use Prim.Native.Nat.{ℕ, zero, suc, _+_, _-_, _≤_, _<_}
 use mathlib.Core.Path.{_≡_, refl, sym, ap, subst, subst₂, _∙_}
 use mathlib.Core.Logic.{_⊎_, inl, inr}
 use mathlib.Core.List.{List}
-use native.Mathlib.Nat.{le-refl}
+use native.Mathlib.Nat.{le-refl, zero-add}
 use native.Mathlib.Omega.{arith}
 use Rattle.forms.specs.declared.confirmation.Confirmation.{Confirmation}
 use Rattle.forms.specs.declared.terms.CounterId.{CounterId}
 use Rattle.forms.specs.declared.terms.GlobalClock.{GlobalClock}
+use Rattle.forms.specs.Chain.{fromValue}
+use Rattle.forms.specs.declared.running.Running.{Running}
 use Rattle.validity.specs.Proof.{logOffset}
+use Rattle.history.specs.Openings.{numberOf, openingsBetween}
+use Rattle.history.specs.OpeningsLaws.{running-walk}
 use Rattle.history.specs.Value.{Signatures, counts, valueAt}
 use Rattle.history.specs.ValueLaws.{valueAt-opened, valueAt-walks-on}
-use Rattle.history.specs.Walk.{walk}
+use Rattle.history.specs.Walk.{pass, walk}
 use Rattle.desk.specs.Desk.{confirmation}
-use Rattle.assurance.specs.Accepted.{Passed, countOf, accepted-passed}
+use Rattle.assurance.specs.Accepted.{Passed, countOf, runningOf, accepted-passed}
 use Rattle.assurance.specs.DeskList.{Call, Item, confirmed, call, At, history, shown, Accepted, closes, kindOf, Truth, Unopened, Opening, MadeFrom, Supposed, Sound}
 use Rattle.assurance.specs.EntryCounts.{entry-counts}
 use Rattle.assurance.specs.EntryWalk.{Placed, placed-walk}
@@ -42,30 +46,53 @@ module _ (first : GlobalClock) (signed : Signatures) (l : List Item) where
         given = same ∙ sym (valueAt-opened signed id first (history l) (k .reading));
       }
 
+  -- value and openings that a call shows, along the clock
+  call-walked : (i : ℕ) (c : Call) → Passed c → Truth first signed l i c →
+      let counting = counts signed (c .id) first (history l) in
+      let k = confirmation (c .proof) in
+      runningOf c ≡ record { value = walk (pass counting) (k .value) (k .reading) (countOf c); openings = 0 + numberOf counting (k .reading .0) (countOf c) }
+  call-walked i c passed truth =
+      let s = c .proof in
+      let n = countOf c in
+      let start = confirmation s .reading in
+      let counting = counts signed (c .id) first (history l) in
+      let placed : (k : ℕ) → 1 ≤ k → k ≤ n → Placed counting (c .id) s (logOffset (kindOf c)) (start .0) k = λ k low high. (
+        passed .readings k low high,
+        ap counting (sym (passed .readings k low high)) ∙ entry-counts first signed l i c passed truth k low high,
+      ) in
+      passed .running
+      ∙ placed-walk counting (c .id) s (logOffset (kindOf c)) (fromValue (confirmation s .value)) (start .0) n placed
+      ∙ running-walk counting (fromValue (confirmation s .value)) start n
+
+  -- the openings are the history's, from the proof's own confirmation up to the reading that it closes on
+  pub call-openings : (i : ℕ) (c : Call) → Passed c → Truth first signed l i c
+      → shown c .openings ≡ openingsBetween signed (c .id) first (history l) (confirmation (c .proof) .reading) (closes c)
+  unfolding openingsBetween
+  call-openings i c passed truth =
+      let start = confirmation (c .proof) .reading in
+      let counting = counts signed (c .id) first (history l) in
+      let after : closes c .0 - start .0 ≡ countOf c = omega (arith, ap (λ (t : GlobalClock). t .0) (passed .closing)) in
+      ap (λ (r : Running). r .openings) (call-walked i c passed truth)
+      ∙ zero-add (numberOf counting (start .0) (countOf c))
+      ∙ ap (numberOf counting (start .0)) (sym after)
+
   -- from the confirmation's value, the value shown
   call-settled : (i : ℕ) (c : Call) → Passed c → Truth first signed l i c
       → Settled first signed l (c .id) (confirmation (c .proof) .reading) (confirmation (c .proof) .value)
       → Settled first signed l (c .id) (closes c) (shown c .value)
   call-settled i c passed truth settled =
-      let s = c .proof in
       let n = countOf c in
-      let log = logOffset (kindOf c) in
-      let start = confirmation s .reading in
+      let start = confirmation (c .proof) .reading in
       let counting = counts signed (c .id) first (history l) in
       let opened = settled .opening .reading in
-      let placed : (k : ℕ) → 1 ≤ k → k ≤ n → Placed counting (c .id) s log (start .0) k = λ k low high. (
-        passed .readings k low high,
-        ap counting (sym (passed .readings k low high)) ∙ entry-counts first signed l i c passed truth k low high,
-      ) in
       record {
         place = settled .place;
         opening = settled .opening;
         opens = settled .opens;
         within = subst (λ (t : GlobalClock). opened .0 ≤ t .0) (sym (passed .closing)) (omega (arith, settled .within));
         given =
-            passed .value
-            ∙ placed-walk counting (c .id) s log (confirmation s .value) (start .0) n placed
-            ∙ ap (λ (v : ℕ). walk counting v start n) (settled .given)
+            ap (λ (r : Running). r .value) (call-walked i c passed truth)
+            ∙ ap (λ (v : ℕ). walk (pass counting) v start n) (settled .given)
             ∙ sym (valueAt-walks-on signed (c .id) first (history l) opened start n (settled .within))
             ∙ ap (valueAt signed (c .id) first (history l) opened) (sym (passed .closing));
       }
@@ -107,10 +134,12 @@ module _ (first : GlobalClock) (signed : Signatures) (l : List Item) where
   pub accepted-sound : (i : ℕ) (c : Call) → At l i (call c) → Accepted c → Supposed first signed l (c .id) i → Sound first signed l c
   accepted-sound i c stands accepted supposed =
       let settled = settled-below (c .id) i supposed (suc i) i c (omega arith) (omega arith) stands refl accepted in
+      let truth = supposed .truth i c (omega arith) stands refl accepted in
       record {
         place = settled .place;
         opening = settled .opening;
         opens = settled .opens;
         within = settled .within;
         value = settled .given;
+        openings = call-openings i c (accepted-passed c accepted) truth;
       }

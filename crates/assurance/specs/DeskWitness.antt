@@ -1,5 +1,5 @@
--- The list of DeskExample.antt meets every supposition of the desk's claim, so the claim speaks of something; and what it says of the two
--- accepted calls there, in figures. All by computing. Assumes nothing.
+-- The list of DeskExample.antt meets every supposition of the desk's claim, so the claim speaks of something; and what it says of the accepted
+-- calls there, in figures. All by computing. Assumes nothing.
 use Prim.Native.Nat.{ℕ, zero, suc, _≤_, _<_}
 use mathlib.Core.Path.{_≡_, refl, sym, ap, subst, _∙_}
 use mathlib.Core.Bool.{true, false}
@@ -11,10 +11,10 @@ use native.Mathlib.Omega.{arith}
 use borrow.Author.Tests.{eqb-false}
 use Rattle.forms.specs.Bytes.{same, window}
 use Rattle.forms.specs.Certificate.{certificateAt, certificateBytes}
-use Rattle.forms.specs.Chain.{step, follows, valueAfter}
+use Rattle.forms.specs.Chain.{step, follows, runningAfter, valueAfter}
 use Rattle.forms.specs.Confirmation.{confirmationAt, confirmationBytes}
 use Rattle.forms.specs.Entry.{entryAt, entriesAt, entryBytes, logBytes}
-use Rattle.forms.specs.Event.{increment}
+use Rattle.forms.specs.Event.{increment, clockRead}
 use Rattle.forms.specs.Terms.{counterId, globalClock}
 use Rattle.forms.specs.declared.confirmation.Confirmation.{Confirmation}
 use Rattle.forms.specs.declared.event.Carried.{Carried}
@@ -22,10 +22,11 @@ use Rattle.forms.specs.declared.terms.CounterId.{CounterId}
 use Rattle.validity.specs.Proof.{headerOf, headerBytes, encode}
 use Rattle.history.specs.History.{increments, clockAfter, incrementAt}
 use Rattle.history.specs.Nonce.{New}
-use Rattle.history.specs.Value.{valueAt}
-use Rattle.desk.specs.Desk.{zeroOrOne, badWanted, badVerdicts, badConfirmation, certificateDenied, moduleDenied, closesElsewhere, wrongReading, wrongClosing, ownerDenied, breaksChain, closing, verified}
+use Rattle.history.specs.Openings.{numberOf, openingsBetween}
+use Rattle.history.specs.Value.{counts, valueAt}
+use Rattle.desk.specs.Desk.{confirmation, zeroOrOne, badWanted, badVerdicts, badConfirmation, certificateDenied, moduleDenied, closesElsewhere, wrongReading, wrongClosing, ownerDenied, breaksChain, closing, verified}
 use Rattle.desk.specs.Lowest.{lowestFrom}
-use Rattle.assurance.specs.DeskExample.{nonce, seven, nine, start, signed, opening, later, entryFor, by-read, left-out, by-increment, items}
+use Rattle.assurance.specs.DeskExample.{nonce, seven, nine, start, signed, opening, later, entryFor, by-read, left-out, by-increment, since-opening, unraised, items}
 use Rattle.assurance.specs.DeskList.{Call, Item, event, confirmed, call, At, history, shown, Accepted, closes, entryOf, requestOf, Shows, Truth, Unopened, Opening, MadeFrom, Supposed}
 use Rattle.assurance.specs.DeskProof.{desk-claim}
 use Rattle.assurance.specs.ListLaws.{opening-once}
@@ -34,7 +35,7 @@ use Rattle.assurance.specs.ListLaws.{opening-once}
 
 -- the list and its history, the byte forms, the desk's tests, and its table
 the-list : Unit {0}
-unfolding nonce seven nine start signed opening later entryFor by-read left-out by-increment items history increments clockAfter incrementAt
+unfolding nonce seven nine start signed opening later entryFor by-read left-out by-increment since-opening unraised items history increments clockAfter incrementAt
 the-list = tt
 
 the-forms : Unit {0}
@@ -42,7 +43,7 @@ unfolding same window headerOf headerBytes encode confirmationAt confirmationByt
 the-forms = tt
 
 the-desk : Unit {0}
-unfolding step follows valueAfter zeroOrOne badWanted badVerdicts badConfirmation certificateDenied moduleDenied closesElsewhere wrongReading
+unfolding step follows runningAfter valueAfter zeroOrOne badWanted badVerdicts badConfirmation certificateDenied moduleDenied closesElsewhere wrongReading
 the-desk = tt
 
 the-table : Unit {0}
@@ -57,19 +58,28 @@ computed = tt
 -- ---- what the desk answers
 
 -- the first call is accepted
-pub by-read-shows : shown by-read ≡ record { number = 0; value = 101; closing = 103; place = 0 }
+pub by-read-shows : shown by-read ≡ record { number = 0; value = 101; closing = 103; place = 0; openings = 1 }
 unfolding computed
 by-read-shows = refl
 
 -- the second is not: its first entry has t = 102
-pub left-out-refused : shown left-out ≡ record { number = 11; value = 0; closing = 0; place = 1 }
+pub left-out-refused : shown left-out ≡ record { number = 11; value = 0; closing = 0; place = 1; openings = 0 }
 unfolding computed
 left-out-refused = refl
 
--- the third is accepted
-pub by-increment-shows : shown by-increment ≡ record { number = 0; value = 104; closing = 104; place = 0 }
+-- the third is accepted; its openings are those behind the second confirmation
+pub by-increment-shows : shown by-increment ≡ record { number = 0; value = 104; closing = 104; place = 0; openings = 1 }
 unfolding computed
 by-increment-shows = refl
+
+-- and so are the last two
+pub since-opening-shows : shown since-opening ≡ record { number = 0; value = 104; closing = 105; place = 0; openings = 2 }
+unfolding computed
+since-opening-shows = refl
+
+pub unraised-shows : shown unraised ≡ record { number = 0; value = 101; closing = 103; place = 0; openings = 0 }
+unfolding computed
+unraised-shows = refl
 
 -- ---- facts place by place
 
@@ -145,6 +155,52 @@ by-increment-true =
       owner-yes = λ k low high own is-yes. up-to-at (OwnerTrue by-increment) 1 (tt, λ same. refl) k low high own;
     }
 
+-- and those of the last two
+since-opening-true : Truth start signed items 13 since-opening
+unfolding computed
+since-opening-true =
+    record {
+      confirmation-yes = λ is-yes. (0, lit< tt, refl);
+      certificate-yes = λ read is-yes. record {
+        earlier =
+            increment (Carried.Request seven 100) (nonce 1)
+            ∷ increment (Carried.Request nine 100) (nonce 2)
+            ∷ increment Carried.Tick (nonce 3)
+            ∷ clockRead (nonce 5)
+            ∷ increment (Carried.Request seven 101) (nonce 4)
+            ∷ increment (Carried.Request nine 100) (nonce 6)
+            ∷ [];
+        later = [];
+        split = refl;
+        reached = refl;
+      };
+      module-yes = λ k low high is-yes.
+          up-to-at (ModuleTrue 13 since-opening) 5
+          (((((tt, (refl, refl, refl)), (refl, refl, refl)), (refl, refl, refl)), (refl, refl, refl)), (refl, refl, refl)) k low high;
+      owner-yes = λ k low high own is-yes.
+          up-to-at (OwnerTrue since-opening) 5
+          (((((tt, λ same. refl), other-id 9 7 refl), other-id 0 7 refl), λ same. refl), other-id 9 7 refl) k low high own;
+    }
+
+unraised-true : Truth start signed items 14 unraised
+unfolding computed
+unraised-true =
+    record {
+      confirmation-yes = λ is-yes. (8, lit< tt, refl);
+      certificate-yes = λ read is-yes. record {
+        earlier =
+            increment (Carried.Request seven 100) (nonce 1)
+            ∷ increment (Carried.Request nine 100) (nonce 2)
+            ∷ increment Carried.Tick (nonce 3)
+            ∷ [];
+        later = increment (Carried.Request seven 101) (nonce 4) ∷ increment (Carried.Request nine 100) (nonce 6) ∷ clockRead (nonce 7) ∷ [];
+        split = refl;
+        reached = refl;
+      };
+      module-yes = λ k low high is-yes. up-to-at (ModuleTrue 14 unraised) 0 tt k low high;
+      owner-yes = λ k low high own is-yes. up-to-at (OwnerTrue unraised) 0 tt k low high own;
+    }
+
 -- ---- the suppositions
 
 -- each of them, of the item at a place: the verdicts of an accepted call are true
@@ -185,7 +241,7 @@ all-true : Everywhere TrueAt items
 unfolding computed
 all-true = (
   tt,
-  (tt, (tt, (tt, (tt, (tt, (λ accepted. by-read-true, (λ accepted. absurd (omega arith), (tt, (tt, (λ accepted. by-increment-true, (tt, tt))))))))))),
+  (tt, (tt, (tt, (tt, (tt, (λ accepted. by-read-true, (λ accepted. absurd (omega arith), (tt, (tt, (λ accepted. by-increment-true, (tt, (tt, (λ accepted. since-opening-true, (λ accepted. unraised-true, tt)))))))))))))),
 )
 
 -- counter 7 is opened with its reading as value
@@ -195,7 +251,7 @@ all-opened = (
   λ own unopened. refl,
   (
     λ own unopened. other-id 9 7 refl own,
-    (tt, (tt, (tt, (tt, (tt, (tt, (λ own unopened. absurd (unopened 0 opening (lit< tt) refl refl), (tt, (tt, (tt, tt)))))))))),
+    (tt, (tt, (tt, (tt, (tt, (tt, (λ own unopened. absurd (unopened 0 opening (lit< tt) refl refl), (tt, (tt, (tt, (tt, (tt, (tt, tt))))))))))))),
   ),
 )
 
@@ -204,7 +260,7 @@ all-made : Everywhere MadeAt items
 unfolding computed
 all-made = (
   λ own j earlier. absurd (omega arith),
-  (λ own j earlier. other-id 9 7 refl own, (tt, (tt, (tt, (tt, (tt, (tt, (λ own j earlier. later-made, (tt, (tt, (tt, tt))))))))))),
+  (λ own j earlier. other-id 9 7 refl own, (tt, (tt, (tt, (tt, (tt, (tt, (λ own j earlier. later-made, (tt, (tt, (tt, (tt, (tt, (tt, tt)))))))))))))),
 )
 
 -- what demand 3 supposes of counter 7 holds of the list, up to every place
@@ -246,6 +302,32 @@ value-at-103 = sym (shows-value 6 by-read refl refl refl)
 pub value-at-104 : valueAt signed seven start (history items) start (globalClock 104) ≡ 104
 unfolding computed
 value-at-104 = sym (shows-value 10 by-increment refl refl refl)
+
+-- an accepted call of counter 7 shows the history's openings since its own confirmation
+shows-openings : (i : ℕ) (c : Call) → At items i (call c) → c .id ≡ seven → Accepted c
+    → shown c .openings ≡ openingsBetween signed seven start (history items) (confirmation (c .proof) .reading) (closes c)
+shows-openings i c stands own accepted =
+    let sound = desk-claim start signed items i c stands accepted .0 (subst (λ (id : CounterId). Supposed start signed items id i) (sym own) (supposed i)) in
+    sound .openings
+    ∙ ap (λ (id : CounterId). openingsBetween signed id start (history items) (confirmation (c .proof) .reading) (closes c)) own
+
+-- by the claim: two since the opening, none right behind the second confirmation, and one behind it up to the next raise ..
+pub openings-at-105 : openingsBetween signed seven start (history items) start (globalClock 105) ≡ 2
+unfolding computed
+openings-at-105 = sym (shows-openings 13 since-opening refl refl refl)
+
+pub openings-none : openingsBetween signed seven start (history items) (globalClock 103) (globalClock 103) ≡ 0
+unfolding computed
+openings-none = sym (shows-openings 14 unraised refl refl refl)
+
+pub openings-behind-later : openingsBetween signed seven start (history items) (globalClock 103) (globalClock 104) ≡ 1
+unfolding computed
+openings-behind-later = sym (shows-openings 10 by-increment refl refl refl)
+
+-- .. where since the opening there are two
+pub openings-at-104 : openingsBetween signed seven start (history items) start (globalClock 104) ≡ 2
+unfolding computed openingsBetween numberOf counts
+openings-at-104 = refl
 
 -- the first call's nonce was new right before its clock read, where the clock was at the reading that the proof closes on
 pub nonce-new : New (nonce 5) (history (take 5 items)) × (clockAfter start (history (take 5 items)) ≡ closes by-read)

@@ -1,4 +1,4 @@
--- The running value along entries is the walk along the clock: where each entry's reading counts exactly if the entry is the counter's, and
+-- Running value and count along entries are the walk along the clock: where each entry's reading counts exactly if the entry is the counter's, and
 -- no reading between two entries counts. Readings may be left out; a proof's entries leave none out. Assumes nothing.
 use Prim.Native.Nat.{ℕ, zero, suc, _+_, _*_, _-_, _≤_, _<_}
 use mathlib.Core.Path.{_≡_, sym, ap, subst, _∙_}
@@ -6,16 +6,17 @@ use mathlib.Core.Bool.{Bool, false, cond}
 use mathlib.Core.List.{List, [], _∷_}
 use native.Mathlib.Nat.{add-sub-cancel-left}
 use native.Mathlib.Omega.{arith}
-use Rattle.forms.specs.Chain.{step, valueAfter}
-use Rattle.forms.specs.ChainLaws.{value-cons}
+use Rattle.forms.specs.Chain.{raised, step, runningAfter}
+use Rattle.forms.specs.declared.running.Running.{Running}
+use Rattle.forms.specs.ChainLaws.{running-cons}
 use Rattle.forms.specs.Entry.{entryAt, entriesAt}
 use Rattle.forms.specs.Limits.{entryLen}
 use Rattle.forms.specs.Terms.{globalClock, sameId}
 use Rattle.forms.specs.declared.entry.Entry.{Entry}
 use Rattle.forms.specs.declared.terms.CounterId.{CounterId}
 use Rattle.forms.specs.declared.terms.GlobalClock.{GlobalClock}
-use Rattle.history.specs.Walk.{pass, walk}
-use Rattle.history.specs.WalkLaws.{walk-first, walk-append, walk-uncounted}
+use Rattle.history.specs.Walk.{passRunning, walk}
+use Rattle.history.specs.WalkLaws.{walk-first, walk-append, walk-still}
 use Rattle.desk.specs.Desk.{entry}
 
 -- no reading above the one and below the other counts
@@ -36,30 +37,31 @@ module _ (counting : GlobalClock → Bool) (id : CounterId) where
   tells-forward from (e ∷ es) to tells = omega (arith, tells .0, tells-forward (e .reading .0) es to (tells .3))
 
   -- a walk to a reading before which nothing counts passes that reading first
-  walk-to : (value from t to : ℕ) → from < t → t ≤ to → Uncounted counting from t
-      → walk counting value (globalClock from) (to - from) ≡ walk counting (pass counting value (globalClock t)) (globalClock t) (to - t)
-  walk-to value from t to above within none =
+  walk-to : (r : Running) (from t to : ℕ) → from < t → t ≤ to → Uncounted counting from t
+      → walk (passRunning counting) r (globalClock from) (to - from) ≡ walk (passRunning counting) (passRunning counting r (globalClock t)) (globalClock t) (to - t)
+  walk-to r from t to above within none =
       let skipped = t - from - 1 in
       let whole : to - from ≡ skipped + suc (to - t) = omega arith in
       let next : from + skipped + 1 ≡ t = omega arith in
-      ap (walk counting value (globalClock from)) whole
-      ∙ walk-append counting value (globalClock from) skipped (suc (to - t))
-      ∙ ap (λ (v : ℕ). walk counting v (globalClock (from + skipped)) (suc (to - t)))
-      (walk-uncounted counting value (globalClock from) skipped (λ u over up-to. none u over (omega arith)))
-      ∙ walk-first counting value (globalClock (from + skipped)) (to - t)
-      ∙ ap (λ (n : ℕ). walk counting (pass counting value (globalClock n)) (globalClock n) (to - t)) next
+      ap (walk (passRunning counting) r (globalClock from)) whole
+      ∙ walk-append (passRunning counting) r (globalClock from) skipped (suc (to - t))
+      ∙ ap (λ (q : Running). walk (passRunning counting) q (globalClock (from + skipped)) (suc (to - t)))
+      (walk-still (passRunning counting) r (globalClock from) skipped (λ u over up-to. ap (λ (b : Bool). cond b (raised r u) r) (none u over (omega arith))))
+      ∙ walk-first (passRunning counting) r (globalClock (from + skipped)) (to - t)
+      ∙ ap (λ (n : ℕ). walk (passRunning counting) (passRunning counting r (globalClock n)) (globalClock n) (to - t)) next
 
-  -- the running value along such entries is the walk over those readings
-  pub tells-walk : (value from : ℕ) (es : List Entry) (to : ℕ) → Tells from es to
-      → valueAfter id value es ≡ walk counting value (globalClock from) (to - from)
-  unfolding Tells valueAfter step
-  tells-walk value from [] to tells =
-      sym (walk-uncounted counting value (globalClock from) (to - from) (λ t above within. tells .1 t above (omega (arith, tells .0))))
-  tells-walk value from (e ∷ es) to tells =
-      value-cons id value e es
-      ∙ ap (λ (b : Bool). valueAfter id (cond b (e .reading .0) value) es) (sym (tells .2))
-      ∙ tells-walk (pass counting value (e .reading)) (e .reading .0) es to (tells .3)
-      ∙ sym (walk-to value from (e .reading .0) to (tells .0) (tells-forward (e .reading .0) es to (tells .3)) (tells .1))
+  -- running value and count along such entries are the walk over those readings
+  pub tells-walk : (r : Running) (from : ℕ) (es : List Entry) (to : ℕ) → Tells from es to
+      → runningAfter id r es ≡ walk (passRunning counting) r (globalClock from) (to - from)
+  unfolding Tells runningAfter step
+  tells-walk r from [] to tells =
+      sym (walk-still (passRunning counting) r (globalClock from) (to - from)
+      (λ t above within. ap (λ (b : Bool). cond b (raised r t) r) (tells .1 t above (omega (arith, tells .0)))))
+  tells-walk r from (e ∷ es) to tells =
+      running-cons id r e es
+      ∙ ap (λ (b : Bool). runningAfter id (cond b (raised r (e .reading)) r) es) (sym (tells .2))
+      ∙ tells-walk (passRunning counting r (e .reading)) (e .reading .0) es to (tells .3)
+      ∙ sym (walk-to r from (e .reading .0) to (tells .0) (tells-forward (e .reading .0) es to (tells .3)) (tells .1))
 
   -- entry k of a log has the reading k after the start, which counts exactly if the entry is the counter's
   abbrev pub Placed : List ℕ → ℕ → ℕ → ℕ → Type 0
@@ -95,9 +97,9 @@ module _ (counting : GlobalClock → Bool) (id : CounterId) where
             (subst (λ (m : ℕ). Tells m (entriesAt s (log + entryLen) n) (start + 1 + n)) (sym next) rest),
       )
 
-  -- so the running value along them is the walk over as many readings
-  pub placed-walk : (s : List ℕ) (log value start n : ℕ) → ((k : ℕ) → 1 ≤ k → k ≤ n → Placed s log start k)
-      → valueAfter id value (entriesAt s log n) ≡ walk counting value (globalClock start) n
-  placed-walk s log value start n placed =
-      tells-walk value start (entriesAt s log n) (start + n) (placed-tell s log start n placed)
-      ∙ ap (walk counting value (globalClock start)) (add-sub-cancel-left start n)
+  -- so running value and count along them are the walk over as many readings
+  pub placed-walk : (s : List ℕ) (log : ℕ) (r : Running) (start n : ℕ) → ((k : ℕ) → 1 ≤ k → k ≤ n → Placed s log start k)
+      → runningAfter id r (entriesAt s log n) ≡ walk (passRunning counting) r (globalClock start) n
+  placed-walk s log r start n placed =
+      tells-walk r start (entriesAt s log n) (start + n) (placed-tell s log start n placed)
+      ∙ ap (walk (passRunning counting) r (globalClock start)) (add-sub-cancel-left start n)

@@ -1,5 +1,6 @@
 -- The proofs of the host's calls: where `prove` or `last` on an image is not refused, the desk accepts the proof set out, all verdicts yes, and
--- shows the value that `read` gives on that image or, for `last`, the t asked for. Document 01, "The host". Assumes nothing.
+-- shows value and openings that `read` gives on that image or, for `last`, the t asked for and the number of the counter's entries up to it.
+-- Document 01, "The host". Assumes nothing.
 use Prim.Native.Nat.{ℕ, _^_, _<_}
 use mathlib.Core.Path.{_≡_, sym, ap, ap₂, _∙_}
 use mathlib.Core.Bool.{Bool, true, not, cond}
@@ -7,6 +8,7 @@ use mathlib.Core.List.{List}
 use borrow.Author.Tests.{ne-eqb}
 use Rattle.forms.specs.Bytes.{Bytes}
 use Rattle.forms.specs.TestsLaws.{both}
+use Rattle.forms.specs.declared.running.Running.{Running}
 use Rattle.forms.specs.declared.terms.CounterId.{CounterId}
 use Rattle.forms.specs.declared.terms.GlobalClock.{GlobalClock}
 use Rattle.validity.specs.Proof.{encode, proofLen, shapeOf}
@@ -15,11 +17,12 @@ use Rattle.log_image.specs.State.{State, decode}
 use Rattle.log_image.specs.Sound.{holds, laidOut, soundState, sound}
 use Rattle.desk.specs.declared.answer.Answer.{Answer}
 use Rattle.desk.specs.Desk.{allYes, verified}
-use Rattle.host.specs.Host.{requestNonce, currentOf, proofOf, lastOf, proveRefusal, lastRefusal, readRefusal, counted, readCall, proveCall, lastCall}
+use Rattle.host.specs.Host.{requestNonce, runningOf, answered, proofOf, lastOf, proveRefusal, lastRefusal, readRefusal, counted, readCall, proveCall, lastCall}
 use Rattle.host.specs.DoneLaws.{settled-passed}
 use Rattle.host.specs.RefusalLaws.{prove-passed, last-passed}
 use Rattle.host.specs.SettledLaws.{answered-done}
 use Rattle.host.specs.declared.answer.Figures.{Figures}
+use Rattle.assurance.specs.HostList.{readRunning, lastRunning}
 use Rattle.assurance.specs.HostProofs.{prove-accepted, last-accepted}
 
 module _ (s : List ℕ) (bytes : Bytes s) (id : CounterId) (id-fits : id .0 < 2 ^ 32) where
@@ -30,19 +33,23 @@ module _ (s : List ℕ) (bytes : Bytes s) (id : CounterId) (id-fits : id .0 < 2 
       let parts = both (laidOut s) (soundState (decode s)) is in
       (parts .1, decode-fits s bytes (parts .0))
 
-  -- `read` on an image where the counter is held gives its current value
+  -- `read` on an image where the counter is held gives the end of its chain
   read-answers : sound s ≡ true → (id .0 ≡ 0 → ⊥) → holds (decode s .records) id ≡ true
-      → (readCall s id .number ≡ 0) × (readCall s id .value ≡ currentOf (decode s) id)
+      → (readCall s id .number ≡ 0) × (readRunning s id ≡ runningOf (decode s) id)
   read-answers is some held =
-      let e = answered-done s (readRefusal (decode s) id) (currentOf (decode s) id) is
-      (ap₂ (λ (a b : Bool). cond {A = ℕ} a 16 (cond {A = ℕ} (not b) 17 0)) (ne-eqb (id .0) 0 some) held) in
-      (ap (λ (f : Figures). f .number) e, ap (λ (f : Figures). f .value) e)
+      let passes : readRefusal (decode s) id ≡ 0 =
+      ap₂ (λ (a b : Bool). cond {A = ℕ} a 16 (cond {A = ℕ} (not b) 17 0)) (ne-eqb (id .0) 0 some) held in
+      let e : (v : ℕ) → answered s (readRefusal (decode s) id) v ≡ record { number = 0; value = v } = λ v. answered-done s (readRefusal (decode s) id) v is passes in
+      let running = runningOf (decode s) id in (
+        ap (λ (f : Figures). f .number) (e (running .value)),
+        ap₂ (λ (f g : Figures). record { value = f .value; openings = g .value }) (e (running .value)) (e (running .openings)),
+      )
 
   -- `prove`: the desk shows what `read` gives on the same image, at its clock
   pub prove-call-accepted : (nonce : List ℕ) (room : ℕ) → proveCall s nonce id room .figures .number ≡ 0
       → (readCall s id .number ≡ 0)
       × (verified (encode (proofOf (decode s) nonce id)) (allYes (proofOf (decode s) nonce id)) id nonce
-      ≡ Answer.Accepted (readCall s id .value) (decode s .clock))
+      ≡ Answer.Accepted (readRunning s id) (decode s .clock))
   prove-call-accepted nonce room e =
       let st : State = decode s in
       let len : ℕ = proofLen (shapeOf (proofOf st nonce id)) in
@@ -52,12 +59,13 @@ module _ (s : List ℕ) (bytes : Bytes s) (id : CounterId) (id-fits : id .0 < 2 
       let given = read-answers (passed .0) (rows .named) (rows .held) in (
         given .0,
         prove-accepted st id (state .0) (state .1) id-fits (rows .held) nonce (rows .long)
-            ∙ ap (λ (v : ℕ). Answer.Accepted v (st .clock)) (sym (given .1)),
+            ∙ ap (λ (r : Running). Answer.Accepted r (st .clock)) (sym (given .1)),
       )
 
   -- `last`: the desk shows the t asked for
   pub last-call-accepted : (t : GlobalClock) (room : ℕ) → lastCall s id t room .figures .number ≡ 0
-      → verified (encode (lastOf (decode s) id t)) (allYes (lastOf (decode s) id t)) id (requestNonce id t (decode s .log)) ≡ Answer.Accepted (t .0) t
+      → verified (encode (lastOf (decode s) id t)) (allYes (lastOf (decode s) id t)) id (requestNonce id t (decode s .log))
+      ≡ Answer.Accepted (lastRunning s id t) t
   last-call-accepted t room e =
       let st : State = decode s in
       let len : ℕ = proofLen (shapeOf (lastOf st id t)) in

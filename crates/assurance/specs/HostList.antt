@@ -5,16 +5,18 @@ use mathlib.Core.Path.{_≡_}
 use mathlib.Core.List.{List, [], _∷_}
 use lib.ListN.{length, take}
 use Rattle.forms.specs.Bytes.{Bytes}
+use Rattle.forms.specs.Chain.{ownEntries}
 use Rattle.forms.specs.Limits.{imageLen}
 use Rattle.forms.specs.PartsLaws.{ConfirmationFits}
 use Rattle.forms.specs.declared.confirmation.Confirmation.{Confirmation}
+use Rattle.forms.specs.declared.running.Running.{Running}
 use Rattle.forms.specs.declared.terms.CounterId.{CounterId}
 use Rattle.forms.specs.declared.terms.GlobalClock.{GlobalClock}
 use Rattle.validity.specs.Proof.{Fields, encode}
 use Rattle.log_image.specs.State.{decode}
 use Rattle.desk.specs.Answer.{figures}
 use Rattle.desk.specs.Desk.{allYes, verified}
-use Rattle.host.specs.Host.{requestNonce, Settled, startCall, openCall, tickCall, incrementCall, readCall, proveCall, lastCall, confirmCall, proofOf, lastOf, proveOutput, lastOutput}
+use Rattle.host.specs.Host.{requestNonce, Settled, startCall, openCall, tickCall, incrementCall, readCall, proveCall, lastCall, confirmCall, proofOf, lastEntries, lastOf, proveOutput, lastOutput}
 
 -- ---- the list
 
@@ -35,7 +37,7 @@ settledBy s (start clock) = startCall s clock
 settledBy s («open» c verdict) = openCall s c verdict
 settledBy s (tick nonce) = tickCall s nonce
 settledBy s (increment nonce id before verdict) = incrementCall s nonce id before verdict
-settledBy s (read id) = record { figures = readCall s id; image = s }
+settledBy s (read id) = record { figures = record { number = readCall s id .number; value = readCall s id .value }; image = s }
 settledBy s (prove nonce id output) = proveCall s nonce id (length output)
 settledBy s (last id t output) = lastCall s id t (length output)
 settledBy s (confirm c verdict) = confirmCall s c verdict
@@ -54,22 +56,31 @@ Widths (confirm c verdict) = ConfirmationFits c
 -- ---- what is claimed of a call
 
 -- "The desk gets a proof at its length, a verdict list of ones, its box and its nonce": the bytes are those written from the fields set out,
--- and the desk accepts them, showing a value and the reading that they close on
-pub record Taken (proof : List ℕ) (fields : Fields) (id : CounterId) (nonce : List ℕ) (value : ℕ) (closing : GlobalClock) : Type 0 where
+-- and the desk accepts them, showing a value and openings, and the reading that they close on
+pub record Taken (proof : List ℕ) (fields : Fields) (id : CounterId) (nonce : List ℕ) (shown : Running) (closing : GlobalClock) : Type 0 where
   pub set-out : proof ≡ encode fields
-  pub accepted : figures (verified proof (allYes fields) id nonce) ≡ record { number = 0; value = value; closing = closing .0; place = 0 }
+  pub accepted : figures (verified proof (allYes fields) id nonce)
+      ≡ record { number = 0; value = shown .value; closing = closing .0; place = 0; openings = shown .openings }
 
--- each prove or last that is not refused. "The read compared is on the image that the writing call got"; last shows t, with the nonce "of the
--- box's request in entry t"
+-- value and openings that read gives
+abbrev pub readRunning : List ℕ → CounterId → Running
+readRunning s id = record { value = readCall s id .value; openings = readCall s id .openings }
+
+-- t, and the number of the counter's entries after its held reading up to t
+abbrev pub lastRunning : List ℕ → CounterId → GlobalClock → Running
+lastRunning s id t = record { value = t .0; openings = ownEntries id (lastEntries (decode s) id t) }
+
+-- each prove or last that is not refused. "The read compared is on the image that the writing call got"; last shows t and counts up to it,
+-- with the nonce "of the box's request in entry t"
 abbrev pub Fair : List ℕ → HostCall → Type 0
 Fair s (prove nonce id output) =
     let r = proveCall s nonce id (length output) .figures in
     r .number ≡ 0
     → (readCall s id .number ≡ 0)
-    × Taken (take (r .value) (proveOutput s nonce id output)) (proofOf (decode s) nonce id) id nonce (readCall s id .value) (decode s .clock)
+    × Taken (take (r .value) (proveOutput s nonce id output)) (proofOf (decode s) nonce id) id nonce (readRunning s id) (decode s .clock)
 Fair s (last id t output) =
     let r = lastCall s id t (length output) .figures in
-    r .number ≡ 0 → Taken (take (r .value) (lastOutput s id t output)) (lastOf (decode s) id t) id (requestNonce id t (decode s .log)) (t .0) t
+    r .number ≡ 0 → Taken (take (r .value) (lastOutput s id t output)) (lastOf (decode s) id t) id (requestNonce id t (decode s .log)) (lastRunning s id t) t
 Fair s (start clock) = Unit
 Fair s («open» c verdict) = Unit
 Fair s (tick nonce) = Unit

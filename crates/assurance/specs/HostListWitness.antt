@@ -1,14 +1,15 @@
 -- The host's claim speaks of something: a list along which prove and last are not refused, so that the desk accepts what they write. From a
 -- start at 100, counter 7 is opened and raised once; prove then shows 101, and last for 101 shows 101. Assumes nothing.
 use Prim.Native.Nat.{ℕ, zero, suc, _+_, _<_}
-use mathlib.Core.Path.{_≡_, refl, ap, subst, _∙_}
+use mathlib.Core.Path.{_≡_, refl, ap, ap₂, subst, _∙_}
 use mathlib.Core.Bool.{Bool, true, cond}
 use mathlib.Core.List.{List, [], _∷_}
 use lib.Dec.{lit<}
 use lib.ListN.{length, getD, take, replicate, length-replicate}
 use borrow.Author.Tests.{eq-eqb}
 use Rattle.forms.specs.Bytes.{Bytes}
-use Rattle.forms.specs.Chain.{step, valueAfter}
+use Rattle.forms.specs.Chain.{step, runningAfter, ownEntries}
+use Rattle.forms.specs.declared.running.Running.{Running}
 use Rattle.forms.specs.Entry.{entryOf}
 use Rattle.forms.specs.Limits.{nonceLen, imageLen}
 use Rattle.forms.specs.Terms.{counterId, globalClock}
@@ -19,14 +20,14 @@ use Rattle.forms.specs.declared.terms.GlobalClock.{GlobalClock}
 use Rattle.validity.specs.Proof.{shapeOf, proofLen}
 use Rattle.log_image.specs.FitLaws.{start-fits, append-entry-fits, store-written-fits, append-record-fits}
 use Rattle.log_image.specs.ImageRoundTrip.{StateFits, decode-encode, encode-sound}
-use Rattle.log_image.specs.Sound.{holds, oldest, after, current, soundState}
+use Rattle.log_image.specs.Sound.{holds, oldest, after, ending, soundState}
 use Rattle.log_image.specs.State.{State, decode, encode}
-use Rattle.host.specs.Host.{requestNonce, Settled, recordOf, currentOf, hasEntry, openRefusal, incrementRefusal, readRefusal, started, opened, raised, counted, proofOf, lastOf, settled, answered, startCall, openCall, incrementCall, readCall, proveCall, lastCall, proveOutput, lastOutput, proveRefusal, lastRefusal}
+use Rattle.host.specs.Host.{requestNonce, Settled, recordOf, runningOf, hasEntry, openRefusal, incrementRefusal, readRefusal, started, opened, raised, counted, proofOf, lastEntries, lastOf, settled, answered, startCall, openCall, incrementCall, proveCall, lastCall, proveOutput, lastOutput, proveRefusal, lastRefusal}
 use Rattle.host.specs.OpenLaws.{opened-sound}
 use Rattle.host.specs.RaiseLaws.{started-sound, counted-sound, incremented-sound}
 use Rattle.host.specs.SettledLaws.{answered-done, settled-done}
 use Rattle.host.specs.declared.answer.Figures.{Figures}
-use Rattle.assurance.specs.HostList.{HostCall, Taken, Runs}
+use Rattle.assurance.specs.HostList.{HostCall, Taken, readRunning, Runs}
 use Rattle.assurance.specs.HostProof.{host-claim}
 
 -- ---- the list
@@ -95,7 +96,7 @@ unfolding holds
 open-passes = refl
 
 raise-passes : incrementRefusal holding (nonceOf 1) seven 100 1 ≡ 0
-unfolding holds recordOf current oldest after valueAfter step
+unfolding holds recordOf ending oldest after runningAfter step
 raise-passes = refl
 
 -- the lengths of the proofs: a header, a confirmation, for prove a certificate, and an entry
@@ -194,13 +195,15 @@ last-ends : lastCall (encode shown) seven (globalClock 101) (length room)
     ≡ record { figures = record { number = 0; value = lastLen shown }; image = encode (counted shown) }
 last-ends = works shown shown-fits shown-sound (λ st. lastRefusal st seven (globalClock 101) (lastLen st) (length room)) lastLen counted last-passes
 
--- what read shows where prove is called
-read-shows : readCall (encode asked) seven .value ≡ 101
-unfolding holds recordOf current oldest after valueAfter step entryOf
+-- what read shows where prove is called: 101, and one opening
+read-shows : readRunning (encode asked) seven ≡ record { value = 101; openings = 1 }
+unfolding holds recordOf ending oldest after runningAfter step entryOf
 read-shows =
-    ap (λ (f : Figures). f .value)
-    (ap (λ (st : State). answered (encode asked) (readRefusal st seven) (currentOf st seven)) (decode-encode asked asked-fits)
-    ∙ answered-done (encode asked) (readRefusal asked seven) (currentOf asked seven) (encode-sound asked asked-fits asked-sound) read-passes)
+    let figures : (part : Running → ℕ) → answered (encode asked) (readRefusal (decode (encode asked)) seven) (part (runningOf (decode (encode asked)) seven))
+    ≡ record { number = 0; value = part (runningOf asked seven) } = λ part.
+    ap (λ (st : State). answered (encode asked) (readRefusal st seven) (part (runningOf st seven))) (decode-encode asked asked-fits)
+    ∙ answered-done (encode asked) (readRefusal asked seven) (part (runningOf asked seven)) (encode-sound asked asked-fits asked-sound) read-passes in
+    ap₂ (λ (f g : Figures). record { value = f .value; openings = g .value }) (figures (λ r. r .value)) (figures (λ r. r .openings))
 
 -- ---- what the claim says along it
 
@@ -223,32 +226,37 @@ unfolding Runs
 from-prove =
     subst (λ (s : List ℕ). Runs s (lasting ∷ [])) (ap (λ (r : Settled). r .image) prove-ends) (from-raise (nonce-bytes 2 (lit< tt), lit< tt) .2)
 
--- what is claimed of prove's output: at a length, for the proof of a state, with a value
-abbrev ByProve : ℕ → State → ℕ → Type 0
-ByProve n st value =
-    Taken (take n (proveOutput (encode asked) (nonceOf 2) seven room)) (proofOf st (nonceOf 2) seven) seven (nonceOf 2) value (st .clock)
+-- value and openings that the desk shows of both proofs
+abbrev once : Running
+once = record { value = 101; openings = 1 }
 
--- the desk accepts the 92 bytes that prove wrote, and shows 101 at 101
-pub proof-taken : Taken (take 92 (proveOutput (encode asked) (nonceOf 2) seven room)) (proofOf asked (nonceOf 2) seven) seven (nonceOf 2) 101 (globalClock 101)
+-- what is claimed of prove's output: at a length, for the proof of a state, with value and openings
+abbrev ByProve : ℕ → State → Running → Type 0
+ByProve n st running =
+    Taken (take n (proveOutput (encode asked) (nonceOf 2) seven room)) (proofOf st (nonceOf 2) seven) seven (nonceOf 2) running (st .clock)
+
+-- the desk accepts the 92 bytes that prove wrote, and shows 101 and one opening at 101
+pub proof-taken : Taken (take 92 (proveOutput (encode asked) (nonceOf 2) seven room)) (proofOf asked (nonceOf 2) seven) seven (nonceOf 2) once (globalClock 101)
 unfolding Runs
 proof-taken =
     let number = ap (λ (r : Settled). r .figures .number) prove-ends in
     let value = ap (λ (r : Settled). r .figures .value) prove-ends ∙ prove-long in
     let len : ℕ = proveCall (encode asked) (nonceOf 2) seven (length room) .figures .value in
     let there = from-raise (nonce-bytes 2 (lit< tt), lit< tt) .0 number .1 in
-    subst (λ (n : ℕ). ByProve n asked 101) value
+    subst (λ (n : ℕ). ByProve n asked once) value
     (subst (ByProve len asked) read-shows
-    (subst (λ (st : State). ByProve len st (readCall (encode asked) seven .value)) (decode-encode asked asked-fits) there))
+    (subst (λ (st : State). ByProve len st (readRunning (encode asked) seven)) (decode-encode asked asked-fits) there))
 
 -- the same of last's
 abbrev ByLast : ℕ → State → Type 0
 ByLast n st =
     let t : GlobalClock = globalClock 101 in
-    Taken (take n (lastOutput (encode shown) seven t room)) (lastOf st seven t) seven (requestNonce seven t (st .log)) 101 t
+    Taken (take n (lastOutput (encode shown) seven t room)) (lastOf st seven t) seven (requestNonce seven t (st .log))
+    (record { value = 101; openings = ownEntries seven (lastEntries st seven t) }) t
 
 -- and the 68 bytes that last wrote, under the nonce of the increment
-pub last-taken : Taken (take 68 (lastOutput (encode shown) seven (globalClock 101) room)) (lastOf shown seven (globalClock 101)) seven (nonceOf 1) 101 (globalClock 101)
-unfolding Runs requestNonce entryOf
+pub last-taken : Taken (take 68 (lastOutput (encode shown) seven (globalClock 101) room)) (lastOf shown seven (globalClock 101)) seven (nonceOf 1) once (globalClock 101)
+unfolding Runs requestNonce entryOf recordOf oldest after ownEntries
 last-taken =
     let number = ap (λ (r : Settled). r .figures .number) last-ends in
     let value = ap (λ (r : Settled). r .figures .value) last-ends ∙ last-long in

@@ -15,6 +15,7 @@ use Rattle.forms.specs.Limits.{nonceLen, entryLen}
 use Rattle.forms.specs.PartsLaws.{EntriesFit, length-log}
 use Rattle.forms.specs.declared.certificate.Certificate.{Certificate}
 use Rattle.forms.specs.declared.confirmation.Confirmation.{Confirmation}
+use Rattle.forms.specs.declared.running.Running.{Running}
 use Rattle.forms.specs.declared.terms.CounterId.{CounterId}
 use Rattle.forms.specs.declared.terms.GlobalClock.{GlobalClock}
 use Rattle.validity.specs.Proof.{Fields, read, increment, shapeOf, proofLen, headerOf, headerBytes, encode}
@@ -29,7 +30,7 @@ use Rattle.host.specs.DoneLaws.{settled-passed, value-given}
 use Rattle.host.specs.RefusalLaws.{prove-passed}
 use Rattle.host.specs.declared.answer.Figures.{Figures}
 use Rattle.assurance.specs.HostCalls.{prove-call-accepted, last-call-accepted}
-use Rattle.assurance.specs.HostList.{HostCall, settledBy, Widths, Taken, Fair, Runs, HostClaim}
+use Rattle.assurance.specs.HostList.{HostCall, settledBy, Widths, Taken, lastRunning, Fair, Runs, HostClaim}
 use Rattle.assurance.specs.HostProofs.{fit-drop, fit-take}
 use Rattle.assurance.specs.HostSteps.{Kept, start-steps, call-steps}
 
@@ -56,12 +57,12 @@ entries-fit s kept id =
 -- ---- the output of a call that is not refused
 
 -- it begins with the proof, so that at its length the desk gets what was set out
-output-taken : (r : Figures) (fields : Fields) (output : List ℕ) (id : CounterId) (nonce : List ℕ) (value : ℕ) (closing : GlobalClock)
+output-taken : (r : Figures) (fields : Fields) (output : List ℕ) (id : CounterId) (nonce : List ℕ) (shown : Running) (closing : GlobalClock)
     → r .number ≡ 0 → r .value ≡ proofLen (shapeOf fields) → length (encode fields) ≡ proofLen (shapeOf fields)
-    → verified (encode fields) (allYes fields) id nonce ≡ Answer.Accepted value closing
-    → Taken (take (r .value) (outputFor r fields output)) fields id nonce value closing
+    → verified (encode fields) (allYes fields) id nonce ≡ Answer.Accepted shown closing
+    → Taken (take (r .value) (outputFor r fields output)) fields id nonce shown closing
 unfolding outputFor
-output-taken r fields output id nonce value closing done at long accepted =
+output-taken r fields output id nonce shown closing done at long accepted =
     let len : ℕ = proofLen (shapeOf fields) in
     let same : take (r .value) (outputFor r fields output) ≡ encode fields =
     ap₂ (λ (n : ℕ) (b : Bool). take n (cond b (encode fields ++ drop len output) output)) at (eq-eqb (r .number) 0 done)
@@ -91,7 +92,7 @@ module _ (s : List ℕ) (kept : Kept s) where
             (value-given s number len (counted st) e) long (there .1),
       )
 
-  -- last shows the t asked for
+  -- last shows the t asked for, and counts up to it
   pub last-fair : (id : CounterId) (t : GlobalClock) (output : List ℕ) → id .0 < 2 ^ 32 → Fair s (HostCall.last id t output)
   last-fair id t output id-fits e =
       let st : State = decode s in
@@ -101,7 +102,7 @@ module _ (s : List ℕ) (kept : Kept s) where
       let long : length (encode fields) ≡ len =
       increment-length (heldOf st id) (length entries) (logBytes entries)
       (length-log entries (fit-take (entriesOf st id) (t .0 - heldOf st id .reading .0) (entries-fit s kept id))) in
-      output-taken (lastCall s id t (length output) .figures) fields output id (requestNonce id t (st .log)) (t .0) t e
+      output-taken (lastCall s id t (length output) .figures) fields output id (requestNonce id t (st .log)) (lastRunning s id t) t e
       (value-given s (lastRefusal st id t len (length output)) len (counted st) e) long
       (last-call-accepted s (kept .bytes) id id-fits t (length output) e)
 

@@ -1,15 +1,17 @@
--- The proofs that an honest host sets out are accepted: from a sound state, all verdicts yes, `prove`'s shows the counter's current value at
--- the clock, and `last`'s shows the t asked for. Document 01, "The host"; the host's half of demand 3, at one state. Assumes nothing.
+-- The proofs that an honest host sets out are accepted: from a sound state, all verdicts yes, `prove`'s shows the counter's current value and
+-- openings at the clock, and `last`'s shows the t asked for and the number of the counter's entries up to it. Document 01, "The host"; the
+-- host's half of demand 3, at one state. Assumes nothing.
 use Prim.Native.Nat.{ℕ, zero, suc, _+_, _-_, _^_, _≤_, _<_}
 use mathlib.Core.Path.{_≡_, refl, sym, ap, ap₂, _∙_}
 use mathlib.Core.Bool.{Bool, true, false, cond, _&&_, _||_, true≢false, false≢true, and-false}
 use mathlib.Core.List.{List, [], _∷_, _++_}
+use native.Mathlib.Nat.{zero-add}
 use native.Mathlib.Omega.{arith}
 use lib.Dec.{eqb, leb}
 use lib.ListN.{length, take, drop, length-take, length-drop, take-append-drop}
 use borrow.Author.Tests.{eqb-true, eq-eqb, ne-eqb, leb-true}
-use Rattle.forms.specs.Chain.{valueAfter, chains}
-use Rattle.forms.specs.ChainLaws.{chains-append, value-snoc, step-own}
+use Rattle.forms.specs.Chain.{fromValue, runningAfter, valueAfter, chains, ownEntries}
+use Rattle.forms.specs.ChainLaws.{chains-append, openings-counted, value-snoc, step-own}
 use Rattle.forms.specs.Limits.{nonceLen}
 use Rattle.forms.specs.PartsLaws.{EntryFits, EntriesFit, none, one-more}
 use Rattle.forms.specs.TestsLaws.{both}
@@ -22,12 +24,12 @@ use Rattle.forms.specs.declared.terms.GlobalClock.{GlobalClock}
 use Rattle.validity.specs.Proof.{encode}
 use Rattle.log_image.specs.ImageRoundTrip.{StateFits}
 use Rattle.log_image.specs.State.{Record, State}
-use Rattle.log_image.specs.Sound.{holds, distinct, bounded, oldest, consecutive, base, spanned, named, after, chained, current, soundState}
+use Rattle.log_image.specs.Sound.{holds, distinct, bounded, oldest, consecutive, base, spanned, named, after, chained, ending, soundState}
 use Rattle.log_image.specs.LookupLaws.{zero-unheld}
 use Rattle.desk.specs.declared.answer.Answer.{Answer}
 use Rattle.desk.specs.Desk.{allYes, verified}
 use Rattle.host.specs.LastLaws.{consecutive-drop}
-use Rattle.host.specs.Host.{recordOf, heldOf, entriesOf, currentOf, hasEntry, requestNonce, proofOf, lastEntries, lastOf}
+use Rattle.host.specs.Host.{recordOf, heldOf, entriesOf, runningOf, hasEntry, requestNonce, proofOf, lastEntries, lastOf}
 use Rattle.assurance.specs.AcceptLaws.{SetOut, read-accepted, increment-accepted}
 
 -- ---- some of the entries
@@ -237,19 +239,21 @@ module _ (st : State) (id : CounterId) (sound : soundState st ≡ true) (fits : 
         chain = ap (λ (i : CounterId). chains i (heldOf st id .value) (entriesOf st id)) (sym (r .own)) ∙ r .chain;
       }
 
-  -- the desk accepts what `prove` sets out, and shows the current value at the clock
+  -- the desk accepts what `prove` sets out, and shows the end of the counter's chain at the clock
   pub prove-accepted : (nonce : List ℕ) → length nonce ≡ nonceLen
-      → verified (encode (proofOf st nonce id)) (allYes (proofOf st nonce id)) id nonce ≡ Answer.Accepted (currentOf st id) (st .clock)
-  unfolding current
+      → verified (encode (proofOf st nonce id)) (allYes (proofOf st nonce id)) id nonce ≡ Answer.Accepted (runningOf st id) (st .clock)
+  unfolding ending
   prove-accepted nonce long =
       read-accepted id nonce (heldOf st id) (entriesOf st id) entries-set-out (record { counter = counter-some; long = long })
       (record { reading = st .clock; nonce = nonce }) refl entries-count (fits .clock)
-      ∙ ap (λ (i : CounterId). Answer.Accepted (valueAfter i (heldOf st id .value) (entriesOf st id)) (st .clock)) (sym (record-is .own))
+      ∙ ap (λ (i : CounterId). Answer.Accepted (runningAfter i (fromValue (heldOf st id .value)) (entriesOf st id)) (st .clock)) (sym (record-is .own))
 
-  -- the desk accepts what `last` sets out for the nonce of the counter's request in entry t, and shows t
+  -- the desk accepts what `last` sets out for the nonce of the counter's request in entry t, and shows t and the number of the counter's
+  -- entries up to it
   pub last-accepted : (t : GlobalClock) → hasEntry id t (entriesOf st id) ≡ true
-      → verified (encode (lastOf st id t)) (allYes (lastOf st id t)) id (requestNonce id t (st .log)) ≡ Answer.Accepted (t .0) t
-  unfolding after
+      → verified (encode (lastOf st id t)) (allYes (lastOf st id t)) id (requestNonce id t (st .log))
+      ≡ Answer.Accepted (record { value = t .0; openings = ownEntries id (lastEntries st id t) }) t
+  unfolding after valueAfter
   last-accepted t has =
       let r = record-is in
       let set-out = entries-set-out in
@@ -267,4 +271,6 @@ module _ (st : State) (id : CounterId) (sound : soundState st ≡ true) (fits : 
       (set-out-take id c (entriesOf st id) (t .0 - c .reading .0) set-out)
       (record { counter = counter-some; long = ap length (sym asked) ∙ f .fits .nonce })
       (f .front) (f .last) (f .cut) (f .own) asked
-      ∙ ap₂ Answer.Accepted value (f .reads)
+      ∙ ap₂ Answer.Accepted
+      (ap₂ (λ (v n : ℕ). record { value = v; openings = n }) value (openings-counted id (fromValue (c .value)) (lastEntries st id t) ∙ zero-add (ownEntries id (lastEntries st id t))))
+      (f .reads)

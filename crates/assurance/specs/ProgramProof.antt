@@ -9,6 +9,7 @@ use lib.Dec.{eqb}
 use lib.ListN.{length, take, replicate, length-replicate}
 use borrow.Author.Tests.{eqb-true, eq-eqb}
 use Rattle.forms.specs.Limits.{imageLen}
+use Rattle.forms.specs.declared.running.Running.{Running}
 use Rattle.forms.specs.declared.terms.CounterId.{CounterId}
 use Rattle.forms.specs.declared.terms.GlobalClock.{GlobalClock}
 use Rattle.validity.specs.Proof.{Fields}
@@ -16,12 +17,12 @@ use Rattle.log_image.specs.State.{decode}
 use Rattle.desk.specs.Answer.{figures}
 use Rattle.desk.specs.Desk.{allYes, verified}
 use Rattle.desk.specs.declared.answer.Figures.{Figures as DeskFigures}
-use Rattle.host.specs.Host.{startCall, readCall, proveCall, lastCall, proofOf, lastOf, proveOutput, lastOutput, requestNonce}
+use Rattle.host.specs.Host.{startCall, proveCall, lastCall, proofOf, lastOf, proveOutput, lastOutput, requestNonce}
 use Rattle.host.specs.declared.answer.Figures.{Figures}
 use Rattle.grammar.specs.declared.command.Command.{Command}
 use Rattle.console.specs.Session.{lineCommand}
 use Rattle.console.specs.Step.{nonceOf, emptyOutput, yes, deskFigures, shown, ran}
-use Rattle.assurance.specs.HostList.{HostCall, Widths, Taken}
+use Rattle.assurance.specs.HostList.{HostCall, Widths, Taken, lastRunning, readRunning}
 use Rattle.assurance.specs.HostProof.{prove-fair, last-fair}
 use Rattle.assurance.specs.HostSteps.{Kept, Steps, start-steps, call-steps}
 use Rattle.assurance.specs.ProgramLines.{callOf, line-fits}
@@ -30,10 +31,10 @@ use Rattle.assurance.specs.ProgramList.{Shows, Along, ProgramClaim}
 -- ---- a proof that was written
 
 -- the desk's figures where it accepts
-shown-taken : (written : Figures) (fields : Fields) (output : List ℕ) (id : CounterId) (nonce : List ℕ) (value : ℕ) (closing : GlobalClock) → written .number ≡ 0
-    → Taken (take (written .value) output) fields id nonce value closing → shown written fields output id nonce ≡ record { number = 0; value = value }
+shown-taken : (written : Figures) (fields : Fields) (output : List ℕ) (id : CounterId) (nonce : List ℕ) (running : Running) (closing : GlobalClock) → written .number ≡ 0
+    → Taken (take (written .value) output) fields id nonce running closing → shown written fields output id nonce ≡ record { number = 0; value = running .value }
 unfolding shown
-shown-taken written fields output id nonce value closing done taken =
+shown-taken written fields output id nonce running closing done taken =
     ap (λ (b : Bool). cond b (deskFigures (verified (take (written .value) output) (allYes fields) id nonce)) written) (eq-eqb (written .number) 0 done)
     ∙ ap (λ (f : DeskFigures). record { number = f .number; value = f .value }) (taken .accepted)
 
@@ -67,14 +68,14 @@ module _ (s : List ℕ) (kept : Kept s) where
       let steps = call-steps s kept call widths in
       let shows : Shows s (Command.Prove b id) = λ done.
       shown-taken (proveCall s (nonceOf b) id (length emptyOutput) .figures) (proofOf (decode s) (nonceOf b) id) (proveOutput s (nonceOf b) id emptyOutput) id (nonceOf b)
-      (readCall s id .value) (decode s .clock) done (prove-fair s kept (nonceOf b) id emptyOutput (widths .1) done .1) in
+      (readRunning s id) (decode s .clock) done (prove-fair s kept (nonceOf b) id emptyOutput (widths .1) done .1) in
       record { found-sound = never-14 _ _ _ id (nonceOf b) _ shows (steps .found-sound); shows = shows; kept = steps .kept }
   command-kept (Command.Last id t) widths =
       let call = HostCall.last id t emptyOutput in
       let steps = call-steps s kept call widths in
       let nonce : List ℕ = requestNonce id t (decode s .log) in
       let shows : Shows s (Command.Last id t) = λ done.
-      shown-taken (lastCall s id t (length emptyOutput) .figures) (lastOf (decode s) id t) (lastOutput s id t emptyOutput) id nonce (t .0) t done
+      shown-taken (lastCall s id t (length emptyOutput) .figures) (lastOf (decode s) id t) (lastOutput s id t emptyOutput) id nonce (lastRunning s id t) t done
       (last-fair s kept id t emptyOutput widths done) in
       record { found-sound = never-14 _ _ _ id nonce _ shows (steps .found-sound); shows = shows; kept = steps .kept }
   command-kept (Command.Start clock) widths = plain (Command.Start clock) tt (call-steps s kept (HostCall.start clock) widths)

@@ -14,6 +14,7 @@ use Rattle.desk.specs.Desk.{allYes, verified}
 use Rattle.desk.specs.declared.answer.Answer.{Answer}
 use Rattle.host.specs.Host.{Settled, startCall, openCall, tickCall, incrementCall, readCall, proveCall, lastCall, confirmCall}
 use Rattle.host.specs.declared.answer.Figures.{Figures}
+use Rattle.host.specs.declared.answer.ReadFigures.{ReadFigures}
 use Rattle.host.specs.Host.{proofOf, lastOf, proveOutput, lastOutput, requestNonce}
 use Rattle.text.specs.Line.{numeral}
 use Rattle.grammar.specs.declared.command.Command.{Command}
@@ -34,6 +35,10 @@ emptyOutput = replicate {A = ℕ} maxProofLen 0
 abbrev pub deskFigures : Answer → Figures
 deskFigures answer = record { number = figures answer .number; value = figures answer .value }
 
+-- of what read gives, number and value
+abbrev pub readFigures : ReadFigures → Figures
+readFigures r = record { number = r .number; value = r .value }
+
 -- "`prove` and `last` print, when written, the desk's number and value": the desk gets the proof at its length. One that the host refuses has
 -- the host's
 unfoldable pub shown : Figures → Fields → List ℕ → CounterId → List ℕ → Figures
@@ -45,7 +50,7 @@ ran s (Command.Start clock) = startCall s clock
 ran s (Command.Open c) = openCall s c yes
 ran s (Command.Tick b) = tickCall s (nonceOf b)
 ran s (Command.Increment b id before) = incrementCall s (nonceOf b) id before yes
-ran s (Command.Read id) = record { figures = readCall s id; image = s }
+ran s (Command.Read id) = record { figures = readFigures (readCall s id); image = s }
 ran s (Command.Prove b id) =
     let call : Settled = proveCall s (nonceOf b) id (length emptyOutput) in
     record {

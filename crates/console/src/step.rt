@@ -3,6 +3,7 @@ use crate::judge::show_last;
 use crate::judge::show_prove;
 use forms::bytes::put;
 use forms::nonce;
+use forms::terms::CounterId;
 use grammar::command::Command;
 use host::answer::Figures;
 use host::confirm::confirm;
@@ -16,13 +17,25 @@ ghost use mathlib.Core.Path.{_≡_};
 ghost use Prim.Native.Nat.{_+_, _≤_};
 ghost use lib.ListN.{length};
 ghost use Rattle.forms.specs.Bytes.{overwrite};
-ghost use Rattle.console.specs.Step.{answerText, maxAnswer, ran};
+ghost use Rattle.host.specs.Host.{readCall};
+ghost use Rattle.console.specs.Step.{answerText, maxAnswer, ran, readFigures};
 
 // The owner's verdict on every confirmation and request.
 const YES: u32 = 1;
 
 // A line that is none of the commands.
 const NO_COMMAND: u32 = 27;
+
+// read as a line prints it: number and value.
+fn show_read(image: &[u8], id: CounterId) -> Figures
+    ensures { λ r. ⌜ r ≡ readFigures (readCall (now (image .entry)) id) ⌝ }
+{
+    let shown = read(image, id);
+    Figures {
+        number: shown.number,
+        value: shown.value,
+    }
+}
 
 // What a command answers. The image is as the host leaves it; after a refusal, and for a line that is no command, it is as it was.
 //
@@ -42,7 +55,7 @@ pub fn step(image: &mut [u8], command: Command) -> Figures
             before,
             YES,
         ),
-        Command::Read(id) => read(image, id),
+        Command::Read(id) => show_read(image, id),
         Command::Prove(byte, id) => show_prove(image, byte, id),
         Command::Last(id, t) => show_last(image, id, t),
         Command::Confirm(confirmation) => confirm(image, confirmation, YES),

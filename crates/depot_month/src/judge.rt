@@ -4,8 +4,10 @@ use crate::cards::Slip;
 use crate::module;
 use crate::plan::id_of;
 use crate::tally;
+use desk::answer::Figures;
 use desk::verdicts::verdict_count;
 use desk::verify::verify;
+use forms::confirmation::Confirmation;
 use forms::nonce::Nonce;
 use forms::terms::GlobalClock;
 use text::part::front;
@@ -21,6 +23,15 @@ pub struct Wanted {
     pub nonce: Nonce,
     pub closing: GlobalClock,
     pub value: u32,
+}
+
+// The openings that the desk shows of an accepted proof are compared with the history, from the proof's own confirmation on.
+fn openings_compared(proof: &[u8], place: u32, shown: Figures, books: &mut [u8]) {
+    let confirmed = Confirmation::read(proof, Proof::CONFIRMATION).reading;
+    let closing = GlobalClock(shown.closing);
+    let openings = module::openings_between(books, id_of(place), confirmed, closing);
+    tally::mix(books, openings);
+    tally::add_if(books, tally::OPENINGS_DIFFER, shown.openings != openings);
 }
 
 // What the desk shows of an accepted proof is compared with the history and with the host.
@@ -45,12 +56,14 @@ pub(crate) fn judged(proof: &[u8], kind: Kind, wanted: Wanted, day: u32, books: 
     tally::mix(books, shown.value);
     tally::mix(books, shown.closing);
     tally::mix(books, shown.place);
+    tally::mix(books, shown.openings);
     if shown.number != 0 {
         tally::add(books, tally::DESK_REFUSES);
         return Slip::none();
     }
     let closing = GlobalClock(shown.closing);
     compared(wanted, shown.value, closing, books);
+    openings_compared(proof, wanted.place, shown, books);
     Slip {
         value: shown.value,
         reading: closing,

@@ -48,7 +48,11 @@ fn requested(place: u32, before: u32, verdict: u32, image: &mut [u8], books: &mu
 // The current value that the host gives, compared with the history's; 0 where it gives none.
 pub(crate) fn current(place: u32, image: &[u8], books: &mut [u8]) -> u32 {
     let id = id_of(place);
-    let figures = read(image, id);
+    let shown = read(image, id);
+    let figures = Figures {
+        number: shown.number,
+        value: shown.value,
+    };
     tally::answered(books, image, figures);
     if figures.number == 0 {
         let now = module::clock(books);

@@ -104,6 +104,11 @@ fn proofs(books: &[u8]) {
         tally::VALUE_DIFFERS,
     );
     counted(
+        b"openings shown that are not the history's:#\n",
+        books,
+        tally::OPENINGS_DIFFER,
+    );
+    counted(
         b"values shown that are not the host's:#\n",
         books,
         tally::HOST_DIFFERS,

@@ -57,6 +57,8 @@ pub(crate) const HOST_DIFFERS: usize = 51;
 
 pub(crate) const SUM: usize = 52;
 
+pub(crate) const OPENINGS_DIFFER: usize = 53;
+
 pub(crate) fn count(books: &[u8], what: usize) -> u32 {
     get_u32(books, FIRST + 4 * (what % NUMBERS))
 }

@@ -1,5 +1,5 @@
 -- Document 01's "Twelve proofs at the desk", cases A to L, as one table: each row is a proof by its fields, its verdicts, what is wanted,
--- and the answer's number, value and place. One theorem says that the desk's definition gives every row its answer. Assumes nothing.
+-- and the answer's number, value, place and openings. One theorem says that the desk's definition gives every row its answer. Assumes nothing.
 use mathlib.Core.Path.{_≡_, subst⁻¹}
 use Prim.Native.Nat.{ℕ}
 use mathlib.Core.Bool.{Bool, true, false, _&&_}
@@ -12,7 +12,7 @@ use Rattle.forms.specs.Bytes.{window, same}
 use Rattle.forms.specs.Confirmation.{confirmationAt, confirmationBytes}
 use Rattle.forms.specs.Certificate.{certificateAt, certificateBytes}
 use Rattle.forms.specs.Entry.{entryAt, entryBytes, entriesAt, logBytes}
-use Rattle.forms.specs.Chain.{step, follows, valueAfter}
+use Rattle.forms.specs.Chain.{step, follows, runningAfter, valueAfter}
 use Rattle.forms.specs.declared.terms.CounterId.{CounterId}
 use Rattle.forms.specs.declared.confirmation.Confirmation.{Confirmation}
 use Rattle.forms.specs.declared.entry.Entry.{Entry}
@@ -32,6 +32,7 @@ pub record Case : Type 0 where
   pub number : ℕ
   pub value : ℕ
   pub place : ℕ
+  pub openings : ℕ
 
 -- what the desk answers to the row's proof
 abbrev pub answered : Case → Figures
@@ -42,6 +43,7 @@ pub record Holds (c : Case) : Type 0 where
   pub number : answered c .number ≡ c .number
   pub value : answered c .value ≡ c .value
   pub place : answered c .place ≡ c .place
+  pub openings : answered c .openings ≡ c .openings
 
 -- ---- the fields of the document's cases
 
@@ -84,49 +86,60 @@ P = onRead (confirmed 7 100 100) 103 (first ∷ second ∷ third ∷ [])
 abbrev atEnd : Confirmation
 atEnd = confirmed 7 4294967295 4294967295
 
--- wanted counter 7; then verdicts and nonce, and number, value and place
-abbrev row : Fields → List ℕ → List ℕ → ℕ → ℕ → ℕ → Case
-row proof verdicts nonce number value place =
-    record { proof = proof; verdicts = verdicts; id = counterId 7; nonce = nonce; number = number; value = value; place = place }
+-- wanted counter 7; then verdicts and nonce, and number, value, place and openings
+abbrev row : Fields → List ℕ → List ℕ → ℕ → ℕ → ℕ → ℕ → Case
+row proof verdicts nonce number value place openings =
+    record {
+      proof = proof;
+      verdicts = verdicts;
+      id = counterId 7;
+      nonce = nonce;
+      number = number;
+      value = value;
+      place = place;
+      openings = openings;
+    }
 
 -- all yes, and the certificate's nonce wanted
-abbrev plain : Fields → ℕ → ℕ → ℕ → Case
-plain proof number value place = row proof (allYes proof) asked number value place
+abbrev plain : Fields → ℕ → ℕ → ℕ → ℕ → Case
+plain proof number value place openings = row proof (allYes proof) asked number value place openings
 
 -- ---- the table
 
 pub cases : List Case
 cases =
     -- A: P
-    plain P 0 103 0
+    plain P 0 103 0 2
     -- B: n = 0, certificate 100
-    ∷ plain (onRead (confirmed 7 100 100) 100 []) 0 100 0
+    ∷ plain (onRead (confirmed 7 100 100) 100 []) 0 100 0 0
     -- C: n = 0, certificate 99
-    ∷ plain (onRead (confirmed 7 100 100) 99 []) 11 0 1
+    ∷ plain (onRead (confirmed 7 100 100) 99 []) 11 0 1 0
     -- D: entry 3 before = 100
-    ∷ plain (onRead (confirmed 7 100 100) 103 (first ∷ second ∷ entry 3 103 7 100 ∷ [])) 13 0 3
+    ∷ plain (onRead (confirmed 7 100 100) 103 (first ∷ second ∷ entry 3 103 7 100 ∷ [])) 13 0 3 0
     -- E: entry 2 taken out
-    ∷ plain (onRead (confirmed 7 100 100) 103 (first ∷ third ∷ [])) 11 0 2
+    ∷ plain (onRead (confirmed 7 100 100) 103 (first ∷ third ∷ [])) 11 0 2 0
     -- F: owner's no at entry 2
-    ∷ row P (1 ∷ 1 ∷ 1 ∷ 1 ∷ 1 ∷ 0 ∷ 1 ∷ 1 ∷ []) asked 0 103 0
+    ∷ row P (1 ∷ 1 ∷ 1 ∷ 1 ∷ 1 ∷ 0 ∷ 1 ∷ 1 ∷ []) asked 0 103 0 2
     -- G: owner's no at entry 1
-    ∷ row P (1 ∷ 1 ∷ 1 ∷ 0 ∷ 1 ∷ 1 ∷ 1 ∷ 1 ∷ []) asked 12 0 1
+    ∷ row P (1 ∷ 1 ∷ 1 ∷ 0 ∷ 1 ∷ 1 ∷ 1 ∷ 1 ∷ []) asked 12 0 1 0
     -- H: other nonce wanted
-    ∷ row P (allYes P) (nonceOf 6) 10 0 0
+    ∷ row P (allYes P) (nonceOf 6) 10 0 0 0
     -- I: confirmation (7, 101, 100)
-    ∷ plain (onRead (confirmed 7 101 100) 103 (first ∷ second ∷ third ∷ [])) 7 0 0
+    ∷ plain (onRead (confirmed 7 101 100) 103 (first ∷ second ∷ third ∷ [])) 7 0 0 0
     -- J: kind 2, entries 101 and 102 only
-    ∷ plain (onIncrement (confirmed 7 100 100) (first ∷ second ∷ [])) 10 0 0
+    ∷ plain (onIncrement (confirmed 7 100 100) (first ∷ second ∷ [])) 10 0 0 0
     -- K: value, reading and certificate 4,294,967,295, n = 0
-    ∷ plain (onRead atEnd 4294967295 []) 0 4294967295 0
+    ∷ plain (onRead atEnd 4294967295 []) 0 4294967295 0 0
     -- L: K with one entry t = 0 and certificate 0
-    ∷ plain (onRead atEnd 0 (entry 1 0 7 4294967295 ∷ [])) 11 0 1
+    ∷ plain (onRead atEnd 0 (entry 1 0 7 4294967295 ∷ [])) 11 0 1 0
     ∷ []
 
 -- ---- every row holds
 
 agrees : Case → Bool
-agrees c = eqb (answered c .number) (c .number) && (eqb (answered c .value) (c .value) && eqb (answered c .place) (c .place))
+agrees c =
+    eqb (answered c .number) (c .number)
+    && (eqb (answered c .value) (c .value) && (eqb (answered c .place) (c .place) && eqb (answered c .openings) (c .openings)))
 
 every : List Case → Bool
 every [] = true
@@ -139,9 +152,10 @@ both false b t = absurd t
 agreed : (c : Case) → T (agrees c) → Holds c
 unfolding agrees
 agreed c t =
-    let n = both (eqb (answered c .number) (c .number)) (eqb (answered c .value) (c .value) && eqb (answered c .place) (c .place)) t in
-    let v = both (eqb (answered c .value) (c .value)) (eqb (answered c .place) (c .place)) (n .1) in
-    record { number = eqb→eq _ _ (n .0); value = eqb→eq _ _ (v .0); place = eqb→eq _ _ (v .1) }
+    let n = both (eqb (answered c .number) (c .number)) _ t in
+    let v = both (eqb (answered c .value) (c .value)) _ (n .1) in
+    let p = both (eqb (answered c .place) (c .place)) _ (v .1) in
+    record { number = eqb→eq _ _ (n .0); value = eqb→eq _ _ (v .0); place = eqb→eq _ _ (p .0); openings = eqb→eq _ _ (p .1) }
 
 in-table : (c : Case) (cs : List Case) → T (every cs) → List·Memᴰ c cs → Holds c
 unfolding every
@@ -151,7 +165,7 @@ in-table c (x ∷ xs) t (List·Memᴰ·tail m) = in-table c xs (both (agrees x) 
 computed : T (every cases)
 unfolding every agrees cases verified badWanted badVerdicts badConfirmation certificateDenied moduleDenied closesElsewhere wrongReading
     wrongClosing ownerDenied breaksChain closing zeroOrOne lowestFrom window same confirmationAt confirmationBytes certificateAt
-    certificateBytes entryAt entryBytes entriesAt logBytes step follows valueAfter headerOf headerBytes encode
+    certificateBytes entryAt entryBytes entriesAt logBytes step follows runningAfter valueAfter headerOf headerBytes encode
 computed = tt
 
 pub cases-hold : (c : Case) → List·Memᴰ c cases → Holds c

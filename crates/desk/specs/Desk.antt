@@ -17,7 +17,7 @@ use Rattle.forms.specs.Checks.{Row, _gives_, firstOf}
 use Rattle.forms.specs.Confirmation.{confirmationAt}
 use Rattle.forms.specs.Certificate.{certificateAt}
 use Rattle.forms.specs.Entry.{entryAt, entriesAt}
-use Rattle.forms.specs.Chain.{follows, valueAfter}
+use Rattle.forms.specs.Chain.{follows, fromValue, runningAfter, valueAfter}
 use Rattle.validity.specs.declared.proof.Kind.{Kind}
 use Rattle.validity.specs.declared.proof.Proof.{Proof}
 use Rattle.validity.specs.Proof.{Fields, shapeOf, knownForm, shapeAt, miscounted, laidOut, confirmationOffset, certificateOffset, logOffset}
@@ -156,9 +156,9 @@ laterChecks p s verdicts id nonce =
     ∷ lowestEntry 13 (lowest (breaksChain s log id (confirmation s .value)) n)
     ∷ []
 
--- "The final running value is the answer; place is 0"
+-- "The final running value is the answer; place is 0", and with it the count of the wanted counter's entries
 abbrev pub accepted : Proof → List ℕ → CounterId → Answer
-accepted p s id = Answer.Accepted (valueAfter id (confirmation s .value) (entriesAt s (logOffset (p .kind)) (p .count))) (closing p s)
+accepted p s id = Answer.Accepted (runningAfter id (fromValue (confirmation s .value)) (entriesAt s (logOffset (p .kind)) (p .count))) (closing p s)
 
 -- the answer to bytes that read as a proof
 unfoldable pub judged : Proof → List ℕ → List ℕ → CounterId → List ℕ → Answer

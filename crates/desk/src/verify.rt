@@ -76,12 +76,14 @@ fn judge(s: &[u8], proof: Proof, verdicts: &[u8], id: CounterId, nonce: &[u8]) -
     if found.walk.place != 0 {
         return Answer::Refused(13, found.walk.place);
     }
-    Answer::Accepted(found.walk.running, closing_reading(s, proof))
+    let running = found.walk.running;
+    Answer::Accepted(running, closing_reading(s, proof))
 }
 
 // The desk's answer to proof, verdicts, wanted counter and wanted nonce. Nothing is asked of the caller, and nothing is written.
 //
-// Ruled out, among others: a desk that answers with the last value before instead of the last reading; one that turns every proof away.
+// Ruled out, among others: a desk that answers with the last value before instead of the last reading; one that turns every proof away; one that
+// counts every counter's entries.
 pub fn verify(proof: &[u8], verdicts: &[u8], id: CounterId, nonce: &[u8]) -> Answer
     ensures { λ r. ⌜ r ≡ verified (now (proof .entry)) (now (verdicts .entry)) id (now (nonce .entry)) ⌝ }
 {

@@ -74,9 +74,15 @@ fn put_entries(log: &[u32], entries: &mut [u8]) {
 
 fn print(label: &[u8], shown: Figures) {
     let mut line = [0u8; LINE_ROOM];
-    let figures = [shown.number, shown.value, shown.closing, shown.place];
+    let figures = [
+        shown.number,
+        shown.value,
+        shown.closing,
+        shown.place,
+        shown.openings,
+    ];
     let mut end = put_words(&mut line, 0, label);
-    end = put_filled(&mut line, end, b":####\n", &figures);
+    end = put_filled(&mut line, end, b":#####\n", &figures);
     io::write_all(STDOUT_FILENO, front(&line, end));
 }
 

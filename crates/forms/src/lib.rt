@@ -1,6 +1,6 @@
-// The forms that desk and host share: document 01's words as types, their limits, and the byte forms of numbers, confirmations,
-// clock certificates and log entries. Every read and every write is total: bytes that are not there read as 0, and what does not fit
-// is not stored.
+// The forms that desk and host share: document 01's words as types, their limits, the byte forms of numbers, confirmations,
+// clock certificates and log entries, and a counter's running value. Every read and every write is total: bytes that are not there read
+// as 0, and what does not fit is not stored.
 pub mod bytes;
 pub mod certificate;
 pub mod confirmation;
@@ -9,4 +9,5 @@ pub mod event;
 pub mod image;
 pub mod nonce;
 pub mod number;
+pub mod running;
 pub mod terms;

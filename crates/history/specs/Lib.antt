@@ -2,6 +2,8 @@ pub mod History
 pub mod HistoryLaws
 pub mod Nonce
 pub mod NonceLaws
+pub mod Openings
+pub mod OpeningsLaws
 pub mod Step
 pub mod StepLaws
 pub mod Value

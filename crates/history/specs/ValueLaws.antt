@@ -118,11 +118,11 @@ largest-counted counting g zero = record { among = inl refl; above = λ t over w
 largest-counted counting g (suc k) = largest-next counting g k (largest counting g k) (counting (globalClock (g + suc k))) refl (largest-counted counting g k)
 
 -- the largest reading that counts, tested from the top, is where the walk from the start ends
-pub largest-walk : (counting : GlobalClock → Bool) (g k : ℕ) → largest counting g k ≡ walk counting g (globalClock g) k
+pub largest-walk : (counting : GlobalClock → Bool) (g k : ℕ) → largest counting g k ≡ walk (pass counting) g (globalClock g) k
 unfolding largest walk
 largest-walk counting g zero = refl
 largest-walk counting g (suc k) =
-    ap (λ (v : ℕ). pass counting v (globalClock (g + suc k))) (largest-walk counting g k) ∙ sym (walk-last counting g (globalClock g) k)
+    ap (λ (v : ℕ). pass counting v (globalClock (g + suc k))) (largest-walk counting g k) ∙ sym (walk-last (pass counting) g (globalClock g) k)
 
 module _ (signed : Signatures) (id : CounterId) (first : GlobalClock) (es : List ModuleEvent) (opened : GlobalClock) where
   -- the value is the largest reading that counts
@@ -145,7 +145,7 @@ module _ (signed : Signatures) (id : CounterId) (first : GlobalClock) (es : List
 
   -- the value k readings after the opening is where the walk from there ends
   pub valueAt-walk : (k : ℕ)
-      → valueAt signed id first es opened (globalClock (opened .0 + k)) ≡ walk (counts signed id first es) (opened .0) opened k
+      → valueAt signed id first es opened (globalClock (opened .0 + k)) ≡ walk (pass (counts signed id first es)) (opened .0) opened k
   unfolding valueAt
   valueAt-walk k =
       ap (largest (counts signed id first es) (opened .0)) (add-sub-cancel-left (opened .0) k) ∙ largest-walk (counts signed id first es) (opened .0) k
@@ -159,16 +159,16 @@ module _ (signed : Signatures) (id : CounterId) (first : GlobalClock) (es : List
   pub valueAt-walks-on : (reading : GlobalClock) (k : ℕ)
       → opened .0 ≤ reading .0
       → valueAt signed id first es opened (globalClock (reading .0 + k))
-      ≡ walk (counts signed id first es) (valueAt signed id first es opened reading) reading k
+      ≡ walk (pass (counts signed id first es)) (valueAt signed id first es opened reading) reading k
   valueAt-walks-on reading k later =
       let j = reading .0 - opened .0 in
       let whole : opened .0 + j ≡ reading .0 = omega arith in
       let total : reading .0 + k ≡ opened .0 + (j + k) = omega arith in
       ap (λ (n : ℕ). valueAt signed id first es opened (globalClock n)) total
       ∙ valueAt-walk (j + k)
-      ∙ walk-append (counts signed id first es) (opened .0) opened j k
-      ∙ ap (λ (v : ℕ). walk (counts signed id first es) v (globalClock (opened .0 + j)) k) (sym (valueAt-walk j))
-      ∙ ap (λ (n : ℕ). walk (counts signed id first es) (valueAt signed id first es opened (globalClock n)) (globalClock n) k) whole
+      ∙ walk-append (pass (counts signed id first es)) (opened .0) opened j k
+      ∙ ap (λ (v : ℕ). walk (pass (counts signed id first es)) v (globalClock (opened .0 + j)) k) (sym (valueAt-walk j))
+      ∙ ap (λ (n : ℕ). walk (pass (counts signed id first es)) (valueAt signed id first es opened (globalClock n)) (globalClock n) k) whole
 
   -- the value at the next reading is that reading if it counts, else the value so far
   pub valueAt-next : (reading : GlobalClock)
@@ -186,6 +186,6 @@ module _ (signed : Signatures) (id : CounterId) (first : GlobalClock) (es : List
   valueAt-stays fs reading reached =
       let k = reading .0 - opened .0 in
       largest-walk (counts signed id first (es ++ fs)) (opened .0) k
-      ∙ walk-agree (counts signed id first (es ++ fs)) (counts signed id first es) (opened .0) opened k
-      (λ t above within. counts-stays signed id first es fs t (omega arith))
+      ∙ walk-agree (pass (counts signed id first (es ++ fs))) (pass (counts signed id first es)) (opened .0) opened k
+      (λ t above within v. ap (λ (b : Bool). cond b (t .0) v) (counts-stays signed id first es fs t (omega arith)))
       ∙ sym (largest-walk (counts signed id first es) (opened .0) k)

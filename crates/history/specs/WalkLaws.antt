@@ -1,66 +1,72 @@
--- Laws of the walk along the clock, for any test of what counts: one reading more, walks in a row, readings of which none counts, and two
--- tests that agree. Assumes nothing.
+-- Laws of the walk along the clock, for any step: one reading more, walks in a row, readings that change nothing, two steps that agree, and a
+-- part of what is walked. Assumes nothing.
 use Prim.Native.Nat.{ℕ, zero, suc, _+_, _≤_, _<_}
 use mathlib.Core.Path.{_≡_, refl, sym, ap, ap₂, _∙_}
-use mathlib.Core.Bool.{Bool, false, cond}
 use native.Mathlib.Nat.{zero-add, add-zero}
 use native.Mathlib.Omega.{arith}
 use Rattle.forms.specs.declared.terms.GlobalClock.{GlobalClock}
 use Rattle.forms.specs.Terms.{globalClock}
-use Rattle.history.specs.Walk.{pass, walk}
+use Rattle.history.specs.Walk.{walk}
 
 -- the first reading of a walk
-pub walk-first : (counting : GlobalClock → Bool) (value : ℕ) (reading : GlobalClock) (k : ℕ)
-    → walk counting value reading (suc k)
-    ≡ walk counting (pass counting value (globalClock (reading .0 + 1))) (globalClock (reading .0 + 1)) k
+pub walk-first : {A : Type 0} (step : A → GlobalClock → A) (a : A) (reading : GlobalClock) (k : ℕ)
+    → walk step a reading (suc k) ≡ walk step (step a (globalClock (reading .0 + 1))) (globalClock (reading .0 + 1)) k
 unfolding walk
-walk-first counting value reading k = refl
+walk-first step a reading k = refl
 
 -- the last reading of a walk
-pub walk-last : (counting : GlobalClock → Bool) (value : ℕ) (reading : GlobalClock) (k : ℕ)
-    → walk counting value reading (suc k) ≡ pass counting (walk counting value reading k) (globalClock (reading .0 + suc k))
+pub walk-last : {A : Type 0} (step : A → GlobalClock → A) (a : A) (reading : GlobalClock) (k : ℕ)
+    → walk step a reading (suc k) ≡ step (walk step a reading k) (globalClock (reading .0 + suc k))
 unfolding walk
-walk-last counting value reading zero = refl
-walk-last counting value reading (suc k) =
+walk-last step a reading zero = refl
+walk-last step a reading (suc k) =
     let next = globalClock (reading .0 + 1) in
-    let passed = pass counting value next in
-    walk-last counting passed next k
-    ∙ ap (λ (n : ℕ). pass counting (walk counting passed next k) (globalClock n)) (omega arith)
+    walk-last step (step a next) next k ∙ ap (λ (n : ℕ). step (walk step (step a next) next k) (globalClock n)) (omega arith)
 
 -- a walk over k and then m readings
-pub walk-append : (counting : GlobalClock → Bool) (value : ℕ) (reading : GlobalClock) (k m : ℕ)
-    → walk counting value reading (k + m) ≡ walk counting (walk counting value reading k) (globalClock (reading .0 + k)) m
+pub walk-append : {A : Type 0} (step : A → GlobalClock → A) (a : A) (reading : GlobalClock) (k m : ℕ)
+    → walk step a reading (k + m) ≡ walk step (walk step a reading k) (globalClock (reading .0 + k)) m
 unfolding walk
-walk-append counting value reading zero m =
-    ap₂ (λ (n r : ℕ). walk counting value (globalClock r) n) (zero-add m) (sym (add-zero (reading .0)))
-walk-append counting value reading (suc k) m =
+walk-append step a reading zero m = ap₂ (λ (n r : ℕ). walk step a (globalClock r) n) (zero-add m) (sym (add-zero (reading .0)))
+walk-append step a reading (suc k) m =
     let next = globalClock (reading .0 + 1) in
-    let passed = pass counting value next in
     let shifted : suc k + m ≡ suc (k + m) = omega arith in
-    ap (walk counting value reading) shifted
-    ∙ walk-append counting passed next k m
-    ∙ ap (λ (n : ℕ). walk counting (walk counting passed next k) (globalClock n) m) (omega arith)
+    ap (walk step a reading) shifted
+    ∙ walk-append step (step a next) next k m
+    ∙ ap (λ (n : ℕ). walk step (walk step (step a next) next k) (globalClock n) m) (omega arith)
 
--- readings of which none counts leave the value as it was
-pub walk-uncounted : (counting : GlobalClock → Bool) (value : ℕ) (reading : GlobalClock) (k : ℕ)
-    → ((t : GlobalClock) → reading .0 < t .0 → t .0 ≤ reading .0 + k → counting t ≡ false)
-    → walk counting value reading k ≡ value
+-- readings that change nothing
+pub walk-still : {A : Type 0} (step : A → GlobalClock → A) (a : A) (reading : GlobalClock) (k : ℕ)
+    → ((t : GlobalClock) → reading .0 < t .0 → t .0 ≤ reading .0 + k → step a t ≡ a)
+    → walk step a reading k ≡ a
 unfolding walk
-walk-uncounted counting value reading zero none = refl
-walk-uncounted counting value reading (suc k) none =
-    walk-last counting value reading k
-    ∙ ap (λ (b : Bool). cond b (reading .0 + suc k) (walk counting value reading k)) (none (globalClock (reading .0 + suc k)) (omega arith) (omega arith))
-    ∙ walk-uncounted counting value reading k (λ t above within. none t above (omega arith))
-
--- two tests that agree on the readings of a walk make the same walk
-pub walk-agree : (counting other : GlobalClock → Bool) (value : ℕ) (reading : GlobalClock) (k : ℕ)
-    → ((t : GlobalClock) → reading .0 < t .0 → t .0 ≤ reading .0 + k → counting t ≡ other t)
-    → walk counting value reading k ≡ walk other value reading k
-unfolding walk
-walk-agree counting other value reading zero agree = refl
-walk-agree counting other value reading (suc k) agree =
+walk-still step a reading zero still = refl
+walk-still step a reading (suc k) still =
     let next = globalClock (reading .0 + suc k) in
-    walk-last counting value reading k
-    ∙ ap₂ (λ (b : Bool) (v : ℕ). cond b (next .0) v) (agree next (omega arith) (omega arith))
-    (walk-agree counting other value reading k (λ t above within. agree t above (omega arith)))
-    ∙ sym (walk-last other value reading k)
+    walk-last step a reading k
+    ∙ ap (λ b. step b next) (walk-still step a reading k (λ t above within. still t above (omega arith)))
+    ∙ still next (omega arith) (omega arith)
+
+-- two steps that agree on the readings of a walk make the same walk
+pub walk-agree : {A : Type 0} (step other : A → GlobalClock → A) (a : A) (reading : GlobalClock) (k : ℕ)
+    → ((t : GlobalClock) → reading .0 < t .0 → t .0 ≤ reading .0 + k → (b : A) → step b t ≡ other b t)
+    → walk step a reading k ≡ walk other a reading k
+unfolding walk
+walk-agree step other a reading zero agree = refl
+walk-agree step other a reading (suc k) agree =
+    let next = globalClock (reading .0 + suc k) in
+    walk-last step a reading k
+    ∙ agree next (omega arith) (omega arith) (walk step a reading k)
+    ∙ ap (λ b. other b next) (walk-agree step other a reading k (λ t above within. agree t above (omega arith)))
+    ∙ sym (walk-last other a reading k)
+
+-- a part that goes its own way is walked by its own step
+pub walk-part : {A B : Type 0} (part : A → B) (step : A → GlobalClock → A) (other : B → GlobalClock → B)
+    → ((b : A) (t : GlobalClock) → part (step b t) ≡ other (part b) t)
+    → (a : A) (reading : GlobalClock) (k : ℕ)
+    → part (walk step a reading k) ≡ walk other (part a) reading k
+unfolding walk
+walk-part part step other own a reading zero = refl
+walk-part part step other own a reading (suc k) =
+    let next = globalClock (reading .0 + 1) in
+    walk-part part step other own (step a next) next k ∙ ap (λ b. walk other b next k) (own a next)

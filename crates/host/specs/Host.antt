@@ -6,6 +6,7 @@ use mathlib.Core.List.{List, [], _∷_, _++_}
 use lib.Dec.{eqb, ltb}
 use lib.ListN.{length, take, drop}
 use Rattle.forms.specs.Chain.{valueAfter}
+use Rattle.forms.specs.declared.running.Running.{Running}
 use Rattle.forms.specs.Checks.{Row, _gives_, firstOf}
 use Rattle.forms.specs.Entry.{entryOf, logBytes}
 use Rattle.forms.specs.Limits.{largest, nonceLen, imageLen, maxCounters, maxEntries}
@@ -17,8 +18,9 @@ use Rattle.forms.specs.declared.terms.CounterId.{CounterId}
 use Rattle.forms.specs.declared.terms.GlobalClock.{GlobalClock}
 use Rattle.validity.specs.Proof.{Fields, read, increment, shapeOf, proofLen, encode as proofBytes}
 use Rattle.log_image.specs.State.{Record, State, decode, encode}
-use Rattle.log_image.specs.Sound.{holds, oldest, base, after, current, sound}
+use Rattle.log_image.specs.Sound.{holds, oldest, base, after, ending, sound}
 pub use Rattle.host.specs.declared.answer.Figures.{Figures}
+pub use Rattle.host.specs.declared.answer.ReadFigures.{ReadFigures}
 
 -- ---- what a state says of a counter
 
@@ -34,9 +36,13 @@ heldOf st id = recordOf (st .records) id .held
 abbrev pub entriesOf : State → CounterId → List Entry
 entriesOf st id = after (base st) (heldOf st id .reading) (st .log)
 
+-- running value and count at the end of its chain
+abbrev pub runningOf : State → CounterId → Running
+runningOf st id = ending (base st) (st .log) (recordOf (st .records) id)
+
 -- "The current value of a box is the end of that chain"
 abbrev pub currentOf : State → CounterId → ℕ
-currentOf st id = current (base st) (st .log) (recordOf (st .records) id)
+currentOf st id = runningOf st id .value
 
 -- the value of a counter at a reading not below its held one
 abbrev pub valueAt : State → CounterId → GlobalClock → ℕ
@@ -227,9 +233,16 @@ incrementCall s nonce id before verdict =
     let st : State = decode s in
     settled s (incrementRefusal st nonce id before verdict) (st .clock .0 + 1) (raised st (Carried.Request id before) nonce)
 
--- read writes nothing
-abbrev pub readCall : List ℕ → CounterId → Figures
-readCall s id = answered s (readRefusal (decode s) id) (currentOf (decode s) id)
+-- read writes nothing. Beside the value it gives "the count of the box's entries after that confirmation too", which is 0 where the value is
+abbrev pub readCall : List ℕ → CounterId → ReadFigures
+readCall s id =
+    let number : ℕ = readRefusal (decode s) id in
+    let running : Running = runningOf (decode s) id in
+    record {
+      number = answered s number (running .value) .number;
+      value = answered s number (running .value) .value;
+      openings = answered s number (running .openings) .value;
+    }
 
 abbrev pub proveCall : List ℕ → List ℕ → CounterId → ℕ → Settled
 proveCall s nonce id room =

@@ -8,7 +8,7 @@ use mathlib.Core.List.{List, [], _∷_, _++_}
 use lib.Dec.{eqb}
 use borrow.Author.Tests.{ne-eqb}
 use Rattle.forms.specs.Chain.{passes, chains}
-use Rattle.forms.specs.ChainLaws.{follows-other, step-other}
+use Rattle.forms.specs.ChainLaws.{chains-cons, follows-other, step-other}
 use Rattle.forms.specs.TestsLaws.{both}
 use Rattle.forms.specs.Terms.{sameId}
 use Rattle.forms.specs.TermsLaws.{same-id}
@@ -30,7 +30,8 @@ unfolding named chains passes
 unnamed-chains rs id value [] unheld some names = refl
 unnamed-chains rs id value (e ∷ es) unheld some names =
     let parts = both (namesHeld rs e) (named rs es) names in
-    ap₂ _&&_ (follows-other id value e (other (sameId (e .id) id) refl (parts .0)))
+    chains-cons id value e es
+    ∙ ap₂ _&&_ (follows-other id value e (other (sameId (e .id) id) refl (parts .0)))
     (ap (λ (v : ℕ). chains id v es) (step-other id value e (other (sameId (e .id) id) refl (parts .0))) ∙ unnamed-chains rs id value es unheld some (parts .1))
   where
     other : (b : Bool) → sameId (e .id) id ≡ b → namesHeld rs e ≡ true → sameId (e .id) id ≡ false

@@ -4,3 +4,11 @@ pub struct Figures {
     pub number: u32,
     pub value: u32,
 }
+
+// What read answers: that, and how often the counter was raised since its held confirmation, 0 on refusal.
+#[repr(C)]
+pub struct ReadFigures {
+    pub number: u32,
+    pub value: u32,
+    pub openings: u32,
+}

@@ -1,9 +1,9 @@
-// A line's call is made and its answer printed: the call, number and value, whether the image changed and its checksum; the same of the
-// output where the call has one.
+// A line's call is made and its answer printed: the call, number and value, for read the openings, whether the image changed and its checksum;
+// the same of the output where the call has one.
 use crate::call;
 use crate::call::Call;
 use forms::bytes::byte_at;
-use host::answer::Figures;
+use host::answer::ReadFigures;
 use libc::STDOUT_FILENO;
 use text::checksum::checksum;
 use text::line::put_filled;
@@ -61,10 +61,20 @@ fn put_sums(line: &mut [u8], at: usize, word: u8, before: Sums, now: Sums) -> us
     put_sum(line, end, before.out, now.out)
 }
 
-fn print_answer(text: &[u8], figures: Figures, before: Sums, now: Sums) {
+// Puts number and value into a line, and for read the openings.
+fn put_figures(line: &mut [u8], at: usize, word: u8, shown: ReadFigures) -> usize {
+    let figures = [shown.number, shown.value, shown.openings];
+    if word == b'r' {
+        put_filled(line, at, b"=###", &figures)
+    } else {
+        put_filled(line, at, b"=##", &figures)
+    }
+}
+
+fn print_answer(text: &[u8], shown: ReadFigures, before: Sums, now: Sums) {
     let mut line = [0u8; LINE_ROOM];
     let mut end = put_words(&mut line, 0, between(text, 0, find(text, 0, b'=')));
-    end = put_filled(&mut line, end, b"=##", &[figures.number, figures.value]);
+    end = put_figures(&mut line, end, byte_at(text, 0), shown);
     end = put_sums(&mut line, end, byte_at(text, 0), before, now);
     print_line(&mut line, end);
 }
@@ -73,8 +83,8 @@ fn print_answer(text: &[u8], figures: Figures, before: Sums, now: Sums) {
 fn print_call(text: &[u8], lent: usize, image: &mut [u8], out: &mut [u8]) {
     let before = both(image, out);
     let end = least(lent, image.len());
-    let figures = call::made(Call::of(text), &mut image[0..end], out);
-    print_answer(text, figures, before, both(image, out));
+    let shown = call::made(Call::of(text), &mut image[0..end], out);
+    print_answer(text, shown, before, both(image, out));
 }
 
 pub(crate) fn print(text: &[u8], lent: usize, image: &mut [u8]) {

@@ -6,6 +6,7 @@ use forms::nonce::LEN;
 use forms::terms::CounterId;
 use forms::terms::GlobalClock;
 use host::answer::Figures;
+use host::answer::ReadFigures;
 use host::confirm::confirm;
 use host::last::last;
 use host::open::open;
@@ -89,19 +90,35 @@ fn proved_last(image: &mut [u8], call: Call, out: &mut [u8]) -> Figures {
     )
 }
 
-// The answer of a line's call: `start clock`, `open id value reading verdict`, `tick byte length`, `inc byte length id before verdict`,
-// `read id`, `prove byte length id room`, `last id t room`, `confirm id value reading verdict`, and those of many.rt.
-pub(crate) fn made(call: Call, image: &mut [u8], out: &mut [u8]) -> Figures {
+// What every call but read answers has no openings.
+fn without_openings(figures: Figures) -> ReadFigures {
+    ReadFigures {
+        number: figures.number,
+        value: figures.value,
+        openings: 0,
+    }
+}
+
+// The answer of a line's call but read: `start clock`, `open id value reading verdict`, `tick byte length`, `inc byte length id before verdict`,
+// `prove byte length id room`, `last id t room`, `confirm id value reading verdict`, and those of many.rt.
+fn settled(call: Call, image: &mut [u8], out: &mut [u8]) -> Figures {
     let word = call.word;
     match word {
         b's' => start(image, GlobalClock(call.first)),
         b'o' => open(image, confirmation(call), call.fourth),
         b't' => ticked(image, call),
         b'i' => incremented(image, call),
-        b'r' => read(image, CounterId(call.first)),
         b'p' => proved(image, call, out),
         b'l' => proved_last(image, call, out),
         b'c' => confirm(image, confirmation(call), call.fourth),
         _ => many::made(image, call),
     }
+}
+
+// The answer of a line's call: of those, or of `read id`.
+pub(crate) fn made(call: Call, image: &mut [u8], out: &mut [u8]) -> ReadFigures {
+    if call.word == b'r' {
+        return read(image, CounterId(call.first));
+    }
+    without_openings(settled(call, image, out))
 }

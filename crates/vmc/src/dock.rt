@@ -7,7 +7,7 @@ ghost use Rattle.forms.specs.Terms.{counterId};
 ghost use Rattle.desk.specs.Answer.{figures};
 ghost use Rattle.desk.specs.Desk.{verified};
 
-// Document 01's four figures, with no buffer written.
+// The five figures of the desk's answer, with no buffer written.
 #[no_mangle]
 pub extern "C" fn vmc_desk_verify(proof: &[u8], verdicts: &[u8], id: u32, nonce: &[u8]) -> Figures
     ensures { λ r. ⌜ r ≡ figures (verified (now (proof .entry)) (now (verdicts .entry)) (counterId id) (now (nonce .entry))) ⌝ }

@@ -3,6 +3,7 @@ use forms::confirmation::Confirmation;
 use forms::terms::CounterId;
 use forms::terms::GlobalClock;
 use host::answer::Figures;
+use host::answer::ReadFigures;
 use host::confirm::confirm;
 use host::last::last;
 use host::open::open;
@@ -63,7 +64,7 @@ pub extern "C" fn vmc_host_increment(
 }
 
 #[no_mangle]
-pub extern "C" fn vmc_host_read(image: &[u8], id: u32) -> Figures
+pub extern "C" fn vmc_host_read(image: &[u8], id: u32) -> ReadFigures
     ensures { λ r. ⌜ r ≡ readCall (now (image .entry)) (counterId id) ⌝ }
 {
     read(image, CounterId(id))

@@ -42,7 +42,7 @@ reads : tie.Need-returns-5
 unfolding ran
 reads c =
     let told = c .before .before .before in
-    known (told .before .before .before .args .image .now) (told .command5 .given .1) (c .read .ensures, refl)
+    known (told .before .before .before .args .image .now) (told .command5 .given .1) (c .show-read .ensures, refl)
 
 proves : tie.Need-returns-6
 unfolding ran

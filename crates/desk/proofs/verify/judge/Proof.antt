@@ -8,7 +8,7 @@ use borrow.Author.Needs.{needs}
 use borrow.Author.Tests.{eq-eqb, ne-eqb}
 use lib.Dec.{eqb}
 use lib.ListN.{drop, length}
-use Rattle.forms.specs.Chain.{valueAfter}
+use Rattle.forms.specs.Chain.{fromValue, runningAfter}
 use Rattle.forms.specs.Checks.{firstOf}
 use Rattle.forms.specs.ChecksLaws.{passed, given}
 use Rattle.forms.specs.Entry.{entriesAt}
@@ -130,7 +130,7 @@ found-places : (c : tie.After-walk-log) →
     × (found .wrong ≡ lowest (wrongReading (a .s .now) log (k .reading)) (a .proof .count))
     × (found .unsigned ≡ lowest (ownerDenied (a .s .now) log (a .verdicts .now) before (a .id)) (a .proof .count))
     × (found .walk .place ≡ lowest (breaksChain (a .s .now) log (a .id) (k .value)) (a .proof .count))
-    × (found .walk .place ≡ 0 → found .walk .running ≡ valueAfter (a .id) (k .value) (entriesAt (a .s .now) log (a .proof .count)))
+    × (found .walk .place ≡ 0 → found .walk .running ≡ runningAfter (a .id) (fromValue (k .value)) (entriesAt (a .s .now) log (a .proof .count)))
 found-places c =
     let a = start-4 (c .before) .args in
     let log = logOffset (a .proof .kind) in
@@ -140,7 +140,7 @@ found-places c =
       found .1 .0 ∙ ap (λ (k : Confirmation). lowest (wrongReading (a .s .now) log (k .reading)) (a .proof .count)) read,
       found .1 .1 .0,
       found .1 .1 .1 .0 ∙ ap (λ (k : Confirmation). lowest (breaksChain (a .s .now) log (a .id) (k .value)) (a .proof .count)) read,
-      λ none. found .1 .1 .1 .1 none ∙ ap (λ (k : Confirmation). valueAfter (a .id) (k .value) (entriesAt (a .s .now) log (a .proof .count))) read,
+      λ none. found .1 .1 .1 .1 none ∙ ap (λ (k : Confirmation). runningAfter (a .id) (fromValue (k .value)) (entriesAt (a .s .now) log (a .proof .count))) read,
     )
 
 -- 9, entries
@@ -232,7 +232,7 @@ rest-10 c = passed _ _ _ (rest-9 (c .before .before)) (no-entry _ _ (found-place
 -- the value and the closing reading
 shown : tie.Need-returns-11
 shown c =
-    let last = c .before in
+    let last = c .before .before in
     ap₂ Answer.Accepted (found-places (walked-10 last) .4 (last .if10 .left)) (c .closing-reading .ensures) ∙ sym (rest-10 last)
 
 pub judge-spec : {M : Type 1} → statement M
@@ -258,5 +258,5 @@ judge-spec =
     closing
     unsigned
     broken
-    (λ c κs. start-10 c .pre .0)
+    (λ c κs. start-10 (c .before) .pre .0)
     shown)

@@ -1,4 +1,4 @@
--- `vmc::dock::vmc_desk_verify` meets its contract: the four figures of the desk's answer. Assumes nothing.
+-- `vmc::dock::vmc_desk_verify` meets its contract: the five figures of the desk's answer. Assumes nothing.
 use mathlib.Core.Path.{ap, _∙_}
 use borrow.Author.Needs.{needs}
 use Rattle.desk.specs.Answer.{figures}
