@@ -265,5 +265,7 @@ int main(void)
     measure("1,024 entries, all of the wanted counter", &q);
     build(&q, 1, 7, 100, 100, VMC_PROOF_MAX_ENTRIES, 2, true);
     measure("1,024 entries, every second of another counter", &q);
+    build(&q, 1, 7, 100, 100, VMC_PROOF_MAX_ENTRIES, 64, true);
+    measure("1,024 entries, every 64th of the wanted counter", &q);
     return 0;
 }

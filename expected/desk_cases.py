@@ -292,6 +292,10 @@ case('all 0', (0, 0, 0, 0, 0), conf=(7, 0, 0), cert=0, log=[])
 case('no entry of its own', (0, 100, 102, 0, 0), cert=102, log=[entry(101, 1, 0, 0), E2], no=[o(1), o(2)])
 case('counter 9 wanted', (0, 102, 103, 0, 1), conf=(9, 100, 100), box=9, no=[o(1), o(3)])
 case('highest counter', (0, 100, 100, 0, 0), conf=(MAX, 100, 100), cert=100, log=[], box=MAX)
+NEAR = [0x04030201, 0x01020305, 0x01020404, 0x01030304, 0x02020304]
+case('ids that differ in one byte or in their order', (0, 107, 107, 0, 2), conf=(0x01020304, 100, 100), cert=107, box=0x01020304,
+     log=[entry(101, 1, 0x01020304, 100)] + [entry(102 + i, 2 + i, b, 77) for i, b in enumerate(NEAR)] + [entry(107, 7, 0x01020304, 101)],
+     no=[o(i) for i in range(2, 7)])
 
 # ---- the rows of 1,024 entries in vectors/note1.md and vectors/desk.md, and their neighbours
 OWN = [entry(100 + i, i % 256, 7, 99 + i) for i in range(1, 1025)]

@@ -9,6 +9,7 @@ pub mod Confirmation
 pub mod Entry
 pub mod Event
 pub mod Image
+pub mod KeyLaws
 pub mod Limits
 pub mod Number
 pub mod NumberLaws
