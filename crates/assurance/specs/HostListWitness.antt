@@ -12,6 +12,7 @@ use Rattle.forms.specs.Chain.{step, runningAfter, ownEntries}
 use Rattle.forms.specs.declared.running.Running.{Running}
 use Rattle.forms.specs.Entry.{entryOf}
 use Rattle.forms.specs.Limits.{nonceLen, imageLen}
+use Rattle.forms.specs.Record.{taken}
 use Rattle.forms.specs.Terms.{counterId, globalClock}
 use Rattle.forms.specs.declared.confirmation.Confirmation.{Confirmation}
 use Rattle.forms.specs.declared.event.Carried.{Carried}
@@ -131,7 +132,7 @@ begun-fits : StateFits begun
 begun-fits = start-fits (globalClock 100) (lit< tt)
 
 holding-fits : StateFits holding
-holding-fits = append-record-fits begun begun-fits signed (record { id = lit< tt; value = lit< tt; reading = lit< tt }) (lit< tt)
+holding-fits = append-record-fits begun begun-fits (taken signed) (record { held = record { id = lit< tt; value = lit< tt; reading = lit< tt } }) (lit< tt)
 
 asked-fits : StateFits asked
 unfolding entryOf

@@ -12,8 +12,9 @@ use Rattle.forms.specs.Bytes.{Bytes}
 use Rattle.forms.specs.Checks.{Row, firstOf}
 use Rattle.forms.specs.Entry.{entryOf}
 use Rattle.forms.specs.Limits.{largest, nonceLen, imageLen, maxEntries}
-use Rattle.forms.specs.PartsLaws.{ConfirmationFits}
+use Rattle.forms.specs.PartsLaws.{ConfirmationFits, RecordFits}
 use Rattle.forms.specs.TestsLaws.{both}
+use Rattle.forms.specs.Record.{taken}
 use Rattle.forms.specs.Terms.{sameId, globalClock}
 use Rattle.forms.specs.declared.confirmation.Confirmation.{Confirmation}
 use Rattle.forms.specs.declared.event.Carried.{Carried}
@@ -27,7 +28,7 @@ use Rattle.log_image.specs.Sound.{oldest, base, soundState, sound}
 use Rattle.log_image.specs.State.{Record, State, decode, encode}
 use Rattle.host.specs.ConfirmLaws.{confirmed-sound}
 use Rattle.host.specs.EffectLaws.{clock-runs, entry-room, record-room}
-use Rattle.host.specs.Host.{Settled, openRefusal, tickRefusal, incrementRefusal, confirmRefusal, openRows, tickRows, incrementRows, readRows, proveRows, lastRows, confirmRows, started, opened, raised, noneHeld, advanced, ticked, counted, replaced, confirmedState, settled, startCall, readRefusal, currentOf, proofOf, lastOf, proveRefusal, lastRefusal, readCall}
+use Rattle.host.specs.Host.{Settled, openRefusal, tickRefusal, incrementRefusal, confirmRefusal, openRows, tickRows, incrementRows, readRows, proveRows, lastRows, confirmRows, started, opened, raised, noneHeld, advanced, ticked, counted, updated, confirmedBy, replaced, confirmedState, settled, startCall, readRefusal, currentOf, proofOf, lastOf, proveRefusal, lastRefusal, readCall}
 use Rattle.host.specs.OpenLaws.{opened-sound}
 use Rattle.host.specs.RaiseLaws.{started-sound, counted-sound, incremented-sound, ticked-sound}
 use Rattle.host.specs.RefusalLaws.{open-passed, tick-passed, increment-passed}
@@ -120,23 +121,24 @@ raised-fits st Carried.Tick nonce fits bytes long carried running room =
     append-entry-fits st fits (entryOf (globalClock (st .clock .0 + 1)) Carried.Tick nonce) (globalClock (st .clock .0 + 1))
     (record { reading = omega arith; nonce = long; id = omega arith; before = omega arith }) bytes (omega arith) room
 
--- a record replaced: the records fit still
-replaced-fit : (rs : List Record) (c : Confirmation) → RecordsFit rs → ConfirmationFits c → RecordsFit (replaced rs c)
-unfolding replaced
-replaced-fit [] c fit fits = fit
-replaced-fit (r ∷ rs) c (RecordsFit.one-more first fit) fits = go (sameId (r .held .id) (c .id)) (replaced-fit rs c fit fits)
+-- a record changed: the records fit still
+updated-fit : (rs : List Record) (id : CounterId) (change : Record → Record) → RecordsFit rs → ((r : Record) → RecordFits r → RecordFits (change r))
+    → RecordsFit (updated rs id change)
+unfolding updated
+updated-fit [] id change fit fits = fit
+updated-fit (r ∷ rs) id change (RecordsFit.one-more first fit) fits = go (sameId (r .held .id) id) (updated-fit rs id change fit fits)
   where
-    go : (b : Bool) → RecordsFit (replaced rs c) → RecordsFit (cond b (record { held = c } ∷ rs) (r ∷ replaced rs c))
-    go true others = RecordsFit.one-more fits fit
+    go : (b : Bool) → RecordsFit (updated rs id change) → RecordsFit (cond b (change r ∷ rs) (r ∷ updated rs id change))
+    go true others = RecordsFit.one-more (fits r first) fit
     go false others = RecordsFit.one-more first others
 
 -- and they are as many
-replaced-length : (rs : List Record) (c : Confirmation) → length (replaced rs c) ≡ length rs
-unfolding replaced
-replaced-length [] c = refl
-replaced-length (r ∷ rs) c = go (sameId (r .held .id) (c .id)) (replaced-length rs c)
+updated-length : (rs : List Record) (id : CounterId) (change : Record → Record) → length (updated rs id change) ≡ length rs
+unfolding updated
+updated-length [] id change = refl
+updated-length (r ∷ rs) id change = go (sameId (r .held .id) id) (updated-length rs id change)
   where
-    go : (b : Bool) → length (replaced rs c) ≡ length rs → length (cond b (record { held = c } ∷ rs) (r ∷ replaced rs c)) ≡ length (r ∷ rs)
+    go : (b : Bool) → length (updated rs id change) ≡ length rs → length (cond b (change r ∷ rs) (r ∷ updated rs id change)) ≡ length (r ∷ rs)
     go true others = refl
     go false others = ap suc others
 
@@ -150,7 +152,7 @@ module _ (s : List ℕ) (kept : Kept s) where
   open-steady : (c : Confirmation) (verdict : ℕ) → ConfirmationFits c → openRefusal (decode s) c verdict ≡ 0 → Steady (opened (decode s) c)
   open-steady c verdict fits none =
       let p = open-passed (decode s) c verdict none in
-      (opened-sound (decode s) c verdict state-sound none, append-record-fits (decode s) state-fits c fits (record-room s (kept .bytes) (kept .is-sound) (p .room)))
+      (opened-sound (decode s) c verdict state-sound none, append-record-fits (decode s) state-fits (taken c) (record { held = fits }) (record-room s (kept .bytes) (kept .is-sound) (p .room)))
 
   tick-steady : (nonce : List ℕ) → Bytes nonce → tickRefusal (decode s) nonce ≡ 0 → Steady (ticked (decode s) nonce)
   tick-steady nonce bytes none = (ticked-sound (decode s) nonce state-sound, go (noneHeld (decode s)))
@@ -186,8 +188,8 @@ module _ (s : List ℕ) (kept : Kept s) where
         confirmed-sound st c verdict state-sound none,
         record {
           clock = dropped .clock;
-          records = replaced-fit (st .records) c (state-fits .records) fits;
-          counters = omega (arith, replaced-length (st .records) c, state-fits .counters);
+          records = updated-fit (st .records) (c .id) (confirmedBy c) (state-fits .records) (λ r before. record { held = fits });
+          counters = omega (arith, updated-length (st .records) (c .id) (confirmedBy c), state-fits .counters);
           log = dropped .log;
           entries = dropped .entries;
           bytes = dropped .bytes;

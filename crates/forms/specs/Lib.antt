@@ -14,6 +14,7 @@ pub mod Limits
 pub mod Number
 pub mod NumberLaws
 pub mod PartsLaws
+pub mod Record
 pub mod Terms
 pub mod TermsLaws
 pub mod TestsLaws

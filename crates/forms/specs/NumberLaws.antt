@@ -101,7 +101,7 @@ bytes-none : Bytes []
 unfolding Bytes
 bytes-none k = lit< tt
 
-bytes-digits : (w x : ℕ) → Bytes (digits w x)
+pub bytes-digits : (w x : ℕ) → Bytes (digits w x)
 bytes-digits zero x = bytes-none
 bytes-digits (suc zero) x = bytes-cons (x % 256) [] (omega arith) bytes-none
 bytes-digits (suc (suc w)) x = bytes-cons (x / 256 ^ suc w % 256) (digits (suc w) x) (omega arith) (bytes-digits (suc w) x)

@@ -12,10 +12,10 @@ use Rattle.forms.specs.declared.entry.Entry.{Entry}
 use Rattle.log_image.specs.State.{Record, State}
 use Rattle.log_image.specs.Sound.{oldest, base, consecutive, after, soundState}
 use Rattle.log_image.specs.RecordsLaws.{oldest-clock}
-use Rattle.host.specs.Host.{replaced, confirmedState, confirmRefusal}
+use Rattle.host.specs.Host.{confirmedBy, replaced, confirmedState, confirmRefusal}
 use Rattle.host.specs.HeldLaws.{later-chains}
 use Rattle.host.specs.LogEndsLaws.{consecutive-drop, named-drop, named-wider, after-cut}
-use Rattle.host.specs.EachRecordLaws.{Each, each-map, each-both, each-oldest, each-replaced, holds-replaced, distinct-replaced, oldest-replaced}
+use Rattle.host.specs.EachRecordLaws.{Each, each-map, each-both, each-oldest, each-updated, oldest-updated, holds-updated, distinct-updated, confirmation-keeps}
 use Rattle.host.specs.RefusalLaws.{ConfirmPassed, confirm-passed}
 use Rattle.host.specs.SoundParts.{Chained, SoundState, sound-parts, sound-whole}
 
@@ -34,21 +34,21 @@ each-cut low next log up readings chain =
 confirmed-parts : (st : State) (c : Confirmation) (verdict : ℕ) → SoundState st → ConfirmPassed st c verdict → SoundState (confirmedState st c)
 confirmed-parts st c verdict s p =
     record {
-      differ = distinct-replaced (st .records) c ∙ s .differ;
-      bounds = each-replaced c (s .bounds) (record { low = p .low; past = p .past });
+      differ = distinct-updated (c .id) (confirmedBy c) (confirmation-keeps c) (st .records) ∙ s .differ;
+      bounds = each-updated (c .id) (confirmedBy c) (s .bounds) (λ r mine before. record { low = p .low; past = p .past });
       span = omega (arith, up, s .span, oldest-clock (st .clock) (replaced (st .records) c), length-drop (next - base st) (st .log));
       steps = subst (λ (b : ℕ). consecutive b (drop (next - base st) (st .log)) ≡ true) (omega (arith, up))
           (consecutive-drop (base st) (next - base st) (st .log) (s .steps));
-      names = named-wider (st .records) (replaced (st .records) c) (drop (next - base st) (st .log)) (λ id held. holds-replaced (st .records) c id ∙ held)
+      names = named-wider (st .records) (replaced (st .records) c) (drop (next - base st) (st .log)) (λ id held. holds-updated (c .id) (confirmedBy c) (confirmation-keeps c) (st .records) id ∙ held)
           (named-drop (st .records) (next - base st) (st .log) (s .names));
-      chain = each-cut (base st) next (st .log) up (each-oldest (st .clock) (replaced (st .records) c)) (each-replaced c (s .chain) own);
+      chain = each-cut (base st) next (st .log) up (each-oldest (st .clock) (replaced (st .records) c)) (each-updated (c .id) (confirmedBy c) (s .chain) (λ r mine before. own));
     }
   where
     next : ℕ
     next = oldest (st .clock) (replaced (st .records) c)
 
     up : base st ≤ next
-    up = oldest-replaced (st .clock) (st .records) c (p .later)
+    up = oldest-updated (st .clock) (st .records) (c .id) (confirmedBy c) (p .later)
 
     own : chains (c .id) (c .value) (after (base st) (c .reading) (st .log)) ≡ true
     own = ap (λ (v : ℕ). chains (c .id) v (after (base st) (c .reading) (st .log))) (p .value) ∙ later-chains st (c .id) (c .reading) s (p .held) (p .later)

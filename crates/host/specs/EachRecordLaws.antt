@@ -1,11 +1,12 @@
--- What holds of every record of a list, and the record of a held counter among them: that of a counter found, one put in its place, one
--- more behind. Assumes nothing.
+-- What holds of every record of a list, and the record of a held counter among them: that of a counter found, one
+-- more behind, one changed. Assumes nothing.
 use mathlib.Core.Path.{_≡_, refl, sym, ap, ap₂, subst, _∙_}
-use Prim.Native.Nat.{_≤_, min}
+use Prim.Native.Nat.{suc, _≤_, min}
 use native.Mathlib.Omega.{arith}
 use mathlib.Core.Bool.{Bool, true, false, not, cond, _&&_, _||_, false≢true, or-false, or-assoc}
 use mathlib.Core.List.{List, [], _∷_, _++_}
 use lib.Dec.{eqb}
+use lib.ListN.{set}
 use borrow.Author.Tests.{ne-eqb}
 use Rattle.forms.specs.Terms.{sameId}
 use Rattle.forms.specs.TermsLaws.{same-id, same-turned}
@@ -14,9 +15,9 @@ use Rattle.forms.specs.declared.terms.CounterId.{CounterId}
 use Rattle.forms.specs.declared.terms.GlobalClock.{GlobalClock}
 use Rattle.forms.specs.TestsLaws.{neither}
 use Rattle.log_image.specs.State.{Record}
-use Rattle.log_image.specs.Sound.{holds, distinct, oldest}
+use Rattle.log_image.specs.Sound.{holds, indexOf, distinct, oldest}
 use Rattle.log_image.specs.PassLaws.{distinct-parts, nonzero}
-use Rattle.host.specs.Host.{recordOf, replaced}
+use Rattle.host.specs.Host.{recordOf, updated, confirmedBy}
 
 -- something holds of every record of a list
 pub data Each (P : Record → Type 0) : List Record → Type 0 where
@@ -112,49 +113,70 @@ distinct-snoc (x ∷ rs) r differ new some =
         ∙ ap₂ _||_ (distinct-parts x rs differ .0)
         (same-turned (x .held .id) (r .held .id) false (neither (sameId (x .held .id) (r .held .id)) (holds rs (r .held .id)) new .0))
 
--- ---- a confirmation put in the place of the held one
+-- ---- a counter's record changed
 
--- what holds of every record and of the new one holds of every record then
-pub each-replaced : {P : Record → Type 0} {rs : List Record} (c : Confirmation) → Each P rs → P (record { held = c }) → Each P (replaced rs c)
-unfolding replaced
-each-replaced c done q = done
-each-replaced {P} c (more {r = r} {rs = rs} p ps) q = go (sameId (r .held .id) (c .id)) (each-replaced c ps q)
+-- what holds of every record, and of the counter's own where it is changed, holds of every record then
+pub each-updated : {P : Record → Type 0} {rs : List Record} (id : CounterId) (change : Record → Record) → Each P rs
+    → ((r : Record) → sameId (r .held .id) id ≡ true → P r → P (change r)) → Each P (updated rs id change)
+unfolding updated
+each-updated id change done q = done
+each-updated {P} id change (more {r = r} {rs = rs} p ps) q = go (sameId (r .held .id) id) refl (each-updated id change ps q)
   where
-    go : (b : Bool) → Each P (replaced rs c) → Each P (cond b (record { held = c } ∷ rs) (r ∷ replaced rs c))
-    go true rest = more q ps
-    go false rest = more p rest
+    go : (b : Bool) → sameId (r .held .id) id ≡ b → Each P (updated rs id change) → Each P (cond b (change r ∷ rs) (r ∷ updated rs id change))
+    go true own rest = more (q r own p) ps
+    go false other rest = more p rest
 
--- the same counters are held
-pub holds-replaced : (rs : List Record) (c : Confirmation) (id : CounterId) → holds (replaced rs c) id ≡ holds rs id
-unfolding holds replaced
-holds-replaced [] c id = refl
-holds-replaced (r ∷ rs) c id = go (sameId (r .held .id) (c .id)) refl (holds-replaced rs c id)
+-- it is at the counter's index
+pub updated-set : (rs : List Record) (id : CounterId) (change : Record → Record) → updated rs id change ≡ set rs (indexOf rs id) (change (recordOf rs id))
+unfolding updated indexOf recordOf
+updated-set [] id change = refl
+updated-set (r ∷ rs) id change = go (sameId (r .held .id) id) (updated-set rs id change)
   where
-    go : (b : Bool) → sameId (r .held .id) (c .id) ≡ b → holds (replaced rs c) id ≡ holds rs id
-        → holds (cond b (record { held = c } ∷ rs) (r ∷ replaced rs c)) id ≡ (sameId (r .held .id) id || holds rs id)
-    go true own rest = ap (λ (x : CounterId). sameId x id || holds rs id) (sym (same-id (r .held .id) (c .id) own))
-    go false other rest = ap (λ (b : Bool). sameId (r .held .id) id || b) rest
-
--- ids still differ
-pub distinct-replaced : (rs : List Record) (c : Confirmation) → distinct (replaced rs c) ≡ distinct rs
-unfolding distinct replaced
-distinct-replaced [] c = refl
-distinct-replaced (r ∷ rs) c = go (sameId (r .held .id) (c .id)) refl (distinct-replaced rs c)
-  where
-    go : (b : Bool) → sameId (r .held .id) (c .id) ≡ b → distinct (replaced rs c) ≡ distinct rs
-        → distinct (cond b (record { held = c } ∷ rs) (r ∷ replaced rs c)) ≡ (not (eqb (r .held .id .0) 0) && (not (holds rs (r .held .id)) && distinct rs))
-    go true own rest = ap (λ (x : CounterId). not (eqb (x .0) 0) && (not (holds rs x) && distinct rs)) (sym (same-id (r .held .id) (c .id) own))
-    go false other rest = ap₂ (λ (a b : Bool). not (eqb (r .held .id .0) 0) && (not a && b)) (holds-replaced rs c (r .held .id)) rest
+    go : (b : Bool) → updated rs id change ≡ set rs (indexOf rs id) (change (recordOf rs id))
+        → cond b (change r ∷ rs) (r ∷ updated rs id change) ≡ set (r ∷ rs) (cond b 0 (suc (indexOf rs id))) (change (cond b r (recordOf rs id)))
+    go true rest = refl
+    go false rest = ap (λ (l : List Record). r ∷ l) rest
 
 -- the oldest reading does not fall where the counter's own does not
-pub oldest-replaced : (clock : GlobalClock) (rs : List Record) (c : Confirmation) → recordOf rs (c .id) .held .reading .0 ≤ c .reading .0
-    → oldest clock rs ≤ oldest clock (replaced rs c)
-unfolding oldest replaced recordOf
-oldest-replaced clock [] c later = omega arith
-oldest-replaced clock (r ∷ rs) c later = go (sameId (r .held .id) (c .id)) later (oldest-replaced clock rs c)
+pub oldest-updated : (clock : GlobalClock) (rs : List Record) (id : CounterId) (change : Record → Record) →
+    recordOf rs id .held .reading .0 ≤ change (recordOf rs id) .held .reading .0 → oldest clock rs ≤ oldest clock (updated rs id change)
+unfolding oldest updated recordOf
+oldest-updated clock [] id change later = omega arith
+oldest-updated clock (r ∷ rs) id change later = go (sameId (r .held .id) id) later (oldest-updated clock rs id change)
   where
-    go : (b : Bool) → cond b r (recordOf rs (c .id)) .held .reading .0 ≤ c .reading .0
-        → (recordOf rs (c .id) .held .reading .0 ≤ c .reading .0 → oldest clock rs ≤ oldest clock (replaced rs c))
-        → min (r .held .reading .0) (oldest clock rs) ≤ oldest clock (cond b (record { held = c } ∷ rs) (r ∷ replaced rs c))
+    go : (b : Bool) → cond b r (recordOf rs id) .held .reading .0 ≤ change (cond b r (recordOf rs id)) .held .reading .0
+        → (recordOf rs id .held .reading .0 ≤ change (recordOf rs id) .held .reading .0 → oldest clock rs ≤ oldest clock (updated rs id change))
+        → min (r .held .reading .0) (oldest clock rs) ≤ oldest clock (cond b (change r ∷ rs) (r ∷ updated rs id change))
     go true later rest = omega arith
     go false later rest = omega (arith, rest later)
+
+-- a change that leaves the record its counter
+abbrev pub Keeps : CounterId → (Record → Record) → Type 0
+Keeps id change = (r : Record) → sameId (r .held .id) id ≡ true → change r .held .id ≡ r .held .id
+
+module _ (id : CounterId) (change : Record → Record) (keeps : Keeps id change) where
+  -- the same counters are held
+  pub holds-updated : (rs : List Record) (other : CounterId) → holds (updated rs id change) other ≡ holds rs other
+  unfolding holds updated
+  holds-updated [] other = refl
+  holds-updated (r ∷ rs) other = go (sameId (r .held .id) id) refl (holds-updated rs other)
+    where
+      go : (b : Bool) → sameId (r .held .id) id ≡ b → holds (updated rs id change) other ≡ holds rs other
+          → holds (cond b (change r ∷ rs) (r ∷ updated rs id change)) other ≡ (sameId (r .held .id) other || holds rs other)
+      go true own rest = ap (λ (x : CounterId). sameId x other || holds rs other) (keeps r own)
+      go false apart rest = ap (λ (b : Bool). sameId (r .held .id) other || b) rest
+
+  -- ids still differ
+  pub distinct-updated : (rs : List Record) → distinct (updated rs id change) ≡ distinct rs
+  unfolding distinct updated
+  distinct-updated [] = refl
+  distinct-updated (r ∷ rs) = go (sameId (r .held .id) id) refl (distinct-updated rs)
+    where
+      go : (b : Bool) → sameId (r .held .id) id ≡ b → distinct (updated rs id change) ≡ distinct rs
+          → distinct (cond b (change r ∷ rs) (r ∷ updated rs id change)) ≡ (not (eqb (r .held .id .0) 0) && (not (holds rs (r .held .id)) && distinct rs))
+      go true own rest = ap (λ (x : CounterId). not (eqb (x .0) 0) && (not (holds rs x) && distinct rs)) (keeps r own)
+      go false apart rest = ap₂ (λ (a b : Bool). not (eqb (r .held .id .0) 0) && (not a && b)) (holds-updated rs (r .held .id)) rest
+
+-- a confirmation is of the counter whose record it changes
+pub confirmation-keeps : (c : Confirmation) → Keeps (c .id) (confirmedBy c)
+confirmation-keeps c r own = sym (same-id (r .held .id) (c .id) own)

@@ -10,6 +10,7 @@ use Rattle.forms.specs.declared.running.Running.{Running}
 use Rattle.forms.specs.Checks.{Row, _gives_, firstOf}
 use Rattle.forms.specs.Entry.{entryOf, logBytes}
 use Rattle.forms.specs.Limits.{largest, nonceLen, imageLen, maxCounters, maxEntries}
+use Rattle.forms.specs.Record.{taken}
 use Rattle.forms.specs.Terms.{counterId, globalClock, sameId}
 use Rattle.forms.specs.declared.confirmation.Confirmation.{Confirmation}
 use Rattle.forms.specs.declared.entry.Entry.{Entry}
@@ -26,7 +27,7 @@ pub use Rattle.host.specs.declared.answer.ReadFigures.{ReadFigures}
 
 -- the record of a held counter
 unfoldable pub recordOf : List Record → CounterId → Record
-recordOf [] id = record { held = record { id = counterId 0; value = 0; reading = globalClock 0 } }
+recordOf [] id = taken (record { id = counterId 0; value = 0; reading = globalClock 0 })
 recordOf (r ∷ rs) id = cond (sameId (r .held .id) id) r (recordOf rs id)
 
 abbrev pub heldOf : State → CounterId → Confirmation
@@ -147,7 +148,7 @@ abbrev pub started : GlobalClock → State
 started clock = record { clock = clock; records = []; log = []; written = 0 }
 
 abbrev pub opened : State → Confirmation → State
-opened st c = record { clock = st .clock; records = st .records ++ (record { held = c } ∷ []); log = st .log; written = st .written }
+opened st c = record { clock = st .clock; records = st .records ++ (taken c ∷ []); log = st .log; written = st .written }
 
 -- an increment: "Clock + 1 and the new entry are stored"
 abbrev pub raised : State → Carried → List ℕ → State
@@ -169,10 +170,17 @@ ticked st nonce = cond (noneHeld st) (advanced st) (raised st Carried.Tick nonce
 abbrev pub counted : State → State
 counted st = record { clock = st .clock; records = st .records; log = st .log; written = min (st .written + 1) largest }
 
+-- the records with that of a counter changed
+unfoldable pub updated : List Record → CounterId → (Record → Record) → List Record
+updated [] id change = []
+updated (r ∷ rs) id change = cond (sameId (r .held .id) id) (change r ∷ rs) (r ∷ updated rs id change)
+
 -- "confirm replaces the box's confirmation, then drops entries no longer needed"
-unfoldable pub replaced : List Record → Confirmation → List Record
-replaced [] c = []
-replaced (r ∷ rs) c = cond (sameId (r .held .id) (c .id)) (record { held = c } ∷ rs) (r ∷ replaced rs c)
+abbrev pub confirmedBy : Confirmation → Record → Record
+confirmedBy c r = record { held = c }
+
+abbrev pub replaced : List Record → Confirmation → List Record
+replaced rs c = updated rs (c .id) (confirmedBy c)
 
 abbrev pub confirmedState : State → Confirmation → State
 confirmedState st c =

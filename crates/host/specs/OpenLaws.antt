@@ -10,6 +10,7 @@ use borrow.Author.Tests.{ne-eqb}
 use Rattle.forms.specs.Chain.{passes, chains}
 use Rattle.forms.specs.ChainLaws.{chains-cons, follows-other, step-other}
 use Rattle.forms.specs.TestsLaws.{both}
+use Rattle.forms.specs.Record.{taken}
 use Rattle.forms.specs.Terms.{sameId}
 use Rattle.forms.specs.TermsLaws.{same-id}
 use Rattle.forms.specs.declared.confirmation.Confirmation.{Confirmation}
@@ -48,12 +49,12 @@ opened-parts : (st : State) (c : Confirmation) (verdict : ℕ) → SoundState st
 unfolding after
 opened-parts st c verdict s p =
     record {
-      differ = distinct-snoc (st .records) (record { held = c }) (s .differ) (p .unheld) (p .named);
+      differ = distinct-snoc (st .records) (taken c) (s .differ) (p .unheld) (p .named);
       bounds = each-snoc (s .bounds) (record { low = p .low; past = p .past });
       span = omega (arith, same, s .span);
       steps = subst (λ (b : ℕ). consecutive b (st .log) ≡ true) same (s .steps);
-      names = named-wider (st .records) (st .records ++ (record { held = c } ∷ [])) (st .log) still (s .names);
-      chain = subst (λ (b : ℕ). Each (Chained b (st .log)) (st .records ++ (record { held = c } ∷ []))) same
+      names = named-wider (st .records) (st .records ++ (taken c ∷ [])) (st .log) still (s .names);
+      chain = subst (λ (b : ℕ). Each (Chained b (st .log)) (st .records ++ (taken c ∷ []))) same
           (each-snoc (s .chain)
           (unnamed-chains (st .records) (c .id) (c .value) (after (base st) (c .reading) (st .log)) (p .unheld) (p .named)
           (named-drop (st .records) (c .reading .0 - base st) (st .log) (s .names))));
@@ -62,10 +63,10 @@ opened-parts st c verdict s p =
     same : base st ≡ base (opened st c)
     same =
         let low : base st ≤ c .reading .0 = omega (arith, s .span, p .recent) in
-        omega (arith, low, oldest-snoc (st .clock) (st .records) (record { held = c }) (p .past))
+        omega (arith, low, oldest-snoc (st .clock) (st .records) (taken c) (p .past))
 
-    still : (id : CounterId) → holds (st .records) id ≡ true → holds (st .records ++ (record { held = c } ∷ [])) id ≡ true
-    still id held = holds-snoc (st .records) (record { held = c }) id ∙ ap (λ (b : Bool). b || sameId (c .id) id) held
+    still : (id : CounterId) → holds (st .records) id ≡ true → holds (st .records ++ (taken c ∷ [])) id ≡ true
+    still id held = holds-snoc (st .records) (taken c) id ∙ ap (λ (b : Bool). b || sameId (c .id) id) held
 
 -- a counter opened keeps the state sound
 pub opened-sound : (st : State) (c : Confirmation) (verdict : ℕ) → soundState st ≡ true → openRefusal st c verdict ≡ 0 → soundState (opened st c) ≡ true

@@ -6,6 +6,7 @@ use crate::refusal::bad_opening;
 use forms::confirmation::Confirmation;
 use forms::image::Image;
 use forms::number::put_u32;
+use forms::record::Record;
 use log_image::header;
 use log_image::header::clock;
 use log_image::header::counter_count;
@@ -55,7 +56,8 @@ fn add_record(image: &mut [u8], confirmation: Confirmation) -> u32
     ensures { λ _. ⌜ now (image .exit) ≡ encode (opened (decode (now (image .entry))) confirmation) ⌝ }
 {
     let count = counter_count(image);
-    confirmation.write(image, Image::RECORDS + Confirmation::LEN * (count as usize));
+    let record = Record::new(confirmation);
+    record.write(image, Image::RECORDS + Record::LEN * (count as usize));
     put_u32(image, header::COUNTERS, count + 1);
     count + 1
 }

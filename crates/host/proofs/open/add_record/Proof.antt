@@ -6,7 +6,8 @@ use native.Mathlib.Omega.{arith}
 use borrow.Author.Needs.{needs}
 use lib.ListN.{length}
 use Rattle.forms.specs.Bytes.{Bytes, overwrite}
-use Rattle.forms.specs.Confirmation.{confirmationBytes}
+use Rattle.forms.specs.Record.{recordBytes, taken}
+use Rattle.forms.specs.declared.record.Record.{Record}
 use Rattle.forms.specs.Limits.{recordsOffset, recordLen}
 use Rattle.forms.specs.Number.{digits}
 use Rattle.log_image.specs.State.{decode}
@@ -32,14 +33,15 @@ few c = omega (arith, count c, start c .pre .1)
 stored : tie.Need-returns
 stored c =
     let written = c .before .before .before .before .before .before in
-    let counted = written .before .before in
+    let counted = written .before .before .before in
     let a = start counted .args in
     let s = a .image .now in
-    let place : ℕ → List ℕ → List ℕ = λ n l. overwrite l (recordsOffset + recordLen * n) (confirmationBytes (a .confirmation)) in (
+    let place : ℕ → Record → List ℕ = λ n r. overwrite s (recordsOffset + recordLen * n) (recordBytes r) in (
       ap (λ (n : ℕ). n + 1) (count counted),
       c .before .before .put-u32 .ensures
-          ∙ ap (λ (l : List ℕ). overwrite l 8 (digits 4 (counted .counter-count .result + 1))) (written .write .ensures)
-          ∙ ap (λ (n : ℕ). overwrite (place n s) 8 (digits 4 (n + 1))) (count counted)
+          ∙ ap (λ (l : List ℕ). overwrite l 8 (digits 4 (counted .counter-count .result + 1)))
+          (written .write .ensures ∙ ap (place (counted .counter-count .result)) (written .before .before .new .ensures .0))
+          ∙ ap (λ (n : ℕ). overwrite (place n (taken (a .confirmation))) 8 (digits 4 (n + 1))) (count counted)
           ∙ opening-stored s (bytes counted) (start counted .pre .0) (a .confirmation) (start counted .pre .1),
     )
 
@@ -48,12 +50,13 @@ add-record-spec =
     tie.close
     (tie.spec
     (λ c κs. search needs)
+    (λ c κs. search needs)
     (λ c. search needs)
     (λ c. search needs)
     (λ c. search needs)
     (λ c κs. search needs)
-    (λ c. omega (arith, few (c .before .before .before .before .before)))
+    (λ c. omega (arith, few (c .before .before .before .before .before .before)))
     (λ c κs. search needs)
-    (λ c. omega (arith, few (c .before .before .before .before .before .before .before .before)))
+    (λ c. omega (arith, few (c .before .before .before .before .before .before .before .before .before)))
     (λ c. search needs)
     stored)
