@@ -9,7 +9,7 @@ impl CounterId {
     // What the id is known by where a loop compares it with the ids of many entries: its four bytes in the other order, so that those of an
     // entry are compared as one load gives them.
     //
-    // Ruled out, among others: a key that leaves a byte out; one that two counters share.
+    // Ruled out, among others: a key that leaves a byte out, so that two counters share it; the id itself.
     pub fn key(self) -> u32
         ensures { λ r. ⌜ r ≡ key self ⌝ }
     {
