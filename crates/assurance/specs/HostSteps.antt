@@ -1,7 +1,7 @@
 -- Each call of the host leaves an image that is kept: bytes, sound, and of an image's length. So no call along a list finds the image
 -- unsound. Document 01, "The host"; the host's half of demand 3. Assumes nothing.
-use Prim.Native.Nat.{ℕ, suc, _+_, _-_, _^_, _<_}
-use mathlib.Core.Path.{_≡_, refl, sym, ap, subst}
+use Prim.Native.Nat.{ℕ, _+_, _-_, _^_, _<_}
+use mathlib.Core.Path.{_≡_, refl, sym, subst}
 use mathlib.Core.Bool.{Bool, true, false, not, cond, _&&_}
 use mathlib.Core.List.{List, [], _∷_}
 use native.Mathlib.Omega.{arith}
@@ -12,23 +12,23 @@ use Rattle.forms.specs.Bytes.{Bytes}
 use Rattle.forms.specs.Checks.{Row, firstOf}
 use Rattle.forms.specs.Entry.{entryOf}
 use Rattle.forms.specs.Limits.{largest, nonceLen, imageLen, maxEntries}
-use Rattle.forms.specs.PartsLaws.{ConfirmationFits, RecordFits}
+use Rattle.forms.specs.PartsLaws.{ConfirmationFits}
 use Rattle.forms.specs.TestsLaws.{both}
 use Rattle.forms.specs.Record.{taken}
-use Rattle.forms.specs.Terms.{sameId, globalClock}
+use Rattle.forms.specs.Terms.{globalClock}
 use Rattle.forms.specs.declared.confirmation.Confirmation.{Confirmation}
 use Rattle.forms.specs.declared.event.Carried.{Carried}
 use Rattle.forms.specs.declared.terms.CounterId.{CounterId}
 use Rattle.forms.specs.declared.terms.GlobalClock.{GlobalClock}
 use Rattle.validity.specs.Proof.{shapeOf, proofLen}
 use Rattle.log_image.specs.FitLaws.{start-fits, append-entry-fits, store-clock-fits, store-written-fits, append-record-fits, drop-entries-fits}
-use Rattle.log_image.specs.ImageParts.{RecordsFit}
 use Rattle.log_image.specs.ImageRoundTrip.{StateFits, length-encode, encode-bytes, encode-sound, decode-fits, sound-decode, sound-laid-out}
-use Rattle.log_image.specs.Sound.{oldest, base, soundState, sound}
-use Rattle.log_image.specs.State.{Record, State, decode, encode}
+use Rattle.log_image.specs.Sound.{base, soundState, sound}
+use Rattle.log_image.specs.State.{State, decode, encode}
 use Rattle.host.specs.ConfirmLaws.{confirmed-sound}
+use Rattle.host.specs.ConfirmStores.{replacedState, replaced-fits}
 use Rattle.host.specs.EffectLaws.{clock-runs, entry-room, record-room}
-use Rattle.host.specs.Host.{Settled, openRefusal, tickRefusal, incrementRefusal, confirmRefusal, openRows, tickRows, incrementRows, readRows, proveRows, lastRows, confirmRows, started, opened, raised, noneHeld, advanced, ticked, counted, updated, confirmedBy, replaced, confirmedState, settled, startCall, readRefusal, currentOf, proofOf, lastOf, proveRefusal, lastRefusal, readCall}
+use Rattle.host.specs.Host.{Settled, openRefusal, tickRefusal, incrementRefusal, confirmRefusal, openRows, tickRows, incrementRows, readRows, proveRows, lastRows, confirmRows, started, opened, raised, noneHeld, advanced, ticked, counted, confirmedState, settled, startCall, readRefusal, currentOf, proofOf, lastOf, proveRefusal, lastRefusal, readCall}
 use Rattle.host.specs.OpenLaws.{opened-sound}
 use Rattle.host.specs.RaiseLaws.{started-sound, counted-sound, incremented-sound, ticked-sound}
 use Rattle.host.specs.RefusalLaws.{open-passed, tick-passed, increment-passed}
@@ -121,27 +121,6 @@ raised-fits st Carried.Tick nonce fits bytes long carried running room =
     append-entry-fits st fits (entryOf (globalClock (st .clock .0 + 1)) Carried.Tick nonce) (globalClock (st .clock .0 + 1))
     (record { reading = omega arith; nonce = long; id = omega arith; before = omega arith }) bytes (omega arith) room
 
--- a record changed: the records fit still
-updated-fit : (rs : List Record) (id : CounterId) (change : Record → Record) → RecordsFit rs → ((r : Record) → RecordFits r → RecordFits (change r))
-    → RecordsFit (updated rs id change)
-unfolding updated
-updated-fit [] id change fit fits = fit
-updated-fit (r ∷ rs) id change (RecordsFit.one-more first fit) fits = go (sameId (r .held .id) id) (updated-fit rs id change fit fits)
-  where
-    go : (b : Bool) → RecordsFit (updated rs id change) → RecordsFit (cond b (change r ∷ rs) (r ∷ updated rs id change))
-    go true others = RecordsFit.one-more (fits r first) fit
-    go false others = RecordsFit.one-more first others
-
--- and they are as many
-updated-length : (rs : List Record) (id : CounterId) (change : Record → Record) → length (updated rs id change) ≡ length rs
-unfolding updated
-updated-length [] id change = refl
-updated-length (r ∷ rs) id change = go (sameId (r .held .id) id) (updated-length rs id change)
-  where
-    go : (b : Bool) → length (updated rs id change) ≡ length rs → length (cond b (change r ∷ rs) (r ∷ updated rs id change)) ≡ length (r ∷ rs)
-    go true others = refl
-    go false others = ap suc others
-
 module _ (s : List ℕ) (kept : Kept s) where
   state-sound : soundState (decode s) ≡ true
   state-sound = kept-steady s kept .0
@@ -183,19 +162,8 @@ module _ (s : List ℕ) (kept : Kept s) where
   confirm-steady : (c : Confirmation) (verdict : ℕ) → ConfirmationFits c → confirmRefusal (decode s) c verdict ≡ 0 → Steady (confirmedState (decode s) c)
   confirm-steady c verdict fits none =
       let st : State = decode s in
-      let rs : List Record = replaced (st .records) c in
-      let dropped = drop-entries-fits st state-fits (oldest (st .clock) rs - base st) in (
-        confirmed-sound st c verdict state-sound none,
-        record {
-          clock = dropped .clock;
-          records = updated-fit (st .records) (c .id) (confirmedBy c) (state-fits .records) (λ r before. record { held = fits });
-          counters = omega (arith, updated-length (st .records) (c .id) (confirmedBy c), state-fits .counters);
-          log = dropped .log;
-          entries = dropped .entries;
-          bytes = dropped .bytes;
-          written = dropped .written;
-        },
-      )
+      let next : State = replacedState st c in
+      (confirmed-sound st c verdict state-sound none, drop-entries-fits next (replaced-fits st c state-fits fits) (base next - base st))
 
   -- read answers as a call that stores
   read-other : (id : CounterId) → readCall s id .number ≡ 14 → ⊥

@@ -1,5 +1,5 @@
--- Laws of big-endian numbers, over the width: a number stored reads as that number, bytes read as a number are its digits, and a
--- number reads the same wherever its bytes stand. Assumes nothing.
+-- Laws of big-endian numbers, over the width: a number stored reads as that number, bytes read as a number are its digits, a number reads
+-- the same wherever its bytes stand, and numbers agree where their bytes in the other order do. Assumes nothing.
 use mathlib.Core.Path.{_≡_, refl, sym, ap, ap₂, _∙_, subst}
 use Prim.Native.Nat.{ℕ, zero, suc, _+_, _*_, _/_, _%_, _^_, _≤_, _<_}
 use native.Mathlib.Nat.{zero-add, add-assoc, pow-suc, pow-succ', div-div-eq-div-mul, div-add-mod', div-lt-iff-lt-mul}
