@@ -19,6 +19,7 @@ use Rattle.forms.specs.declared.running.Running.{Running}
 use Rattle.forms.specs.declared.terms.CounterId.{CounterId}
 use Rattle.forms.specs.declared.terms.GlobalClock.{GlobalClock}
 use Rattle.validity.specs.Proof.{Fields, read, increment, shapeOf, proofLen, headerOf, headerBytes, encode}
+use Rattle.log_image.specs.FitLaws.{entries-fit-drop}
 use Rattle.log_image.specs.ImageRoundTrip.{decode-fits, sound-laid-out}
 use Rattle.log_image.specs.Sound.{base, after}
 use Rattle.log_image.specs.State.{State, decode}
@@ -31,7 +32,7 @@ use Rattle.host.specs.RefusalLaws.{prove-passed}
 use Rattle.host.specs.declared.answer.Figures.{Figures}
 use Rattle.assurance.specs.HostCalls.{prove-call-accepted, last-call-accepted}
 use Rattle.assurance.specs.HostList.{HostCall, settledBy, Widths, Taken, lastRunning, Fair, Runs, HostClaim}
-use Rattle.assurance.specs.HostProofs.{fit-drop, fit-take}
+use Rattle.assurance.specs.HostProofs.{fit-take}
 use Rattle.assurance.specs.HostSteps.{Kept, start-steps, call-steps}
 
 -- ---- the bytes of a proof
@@ -52,7 +53,7 @@ increment-length c count entries whole = omega (arith, whole)
 entries-fit : (s : List ℕ) → Kept s → (id : CounterId) → EntriesFit (entriesOf (decode s) id)
 unfolding after
 entries-fit s kept id =
-    fit-drop (decode s .log) (heldOf (decode s) id .reading .0 - base (decode s)) (decode-fits s (kept .bytes) (sound-laid-out s (kept .is-sound)) .log)
+    entries-fit-drop (heldOf (decode s) id .reading .0 - base (decode s)) (decode s .log) (decode-fits s (kept .bytes) (sound-laid-out s (kept .is-sound)) .log)
 
 -- ---- the output of a call that is not refused
 

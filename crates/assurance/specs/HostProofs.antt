@@ -1,15 +1,15 @@
 -- The proofs that an honest host sets out are accepted: from a sound state, all verdicts yes, `prove`'s shows the counter's current value and
 -- openings at the clock, and `last`'s shows the t asked for and the number of the counter's entries up to it. Document 01, "The host"; the
 -- host's half of demand 3, at one state. Assumes nothing.
-use Prim.Native.Nat.{ℕ, zero, suc, _+_, _-_, _^_, _≤_, _<_}
+use Prim.Native.Nat.{ℕ, zero, suc, _+_, _-_, _^_, _<_}
 use mathlib.Core.Path.{_≡_, refl, sym, ap, ap₂, _∙_}
 use mathlib.Core.Bool.{Bool, true, false, cond, _&&_, _||_, true≢false, false≢true, and-false}
 use mathlib.Core.List.{List, [], _∷_, _++_}
 use native.Mathlib.Nat.{zero-add}
 use native.Mathlib.Omega.{arith}
-use lib.Dec.{eqb, leb}
+use lib.Dec.{eqb}
 use lib.ListN.{length, take, drop, length-take, length-drop, take-append-drop}
-use borrow.Author.Tests.{eqb-true, eq-eqb, ne-eqb, leb-true}
+use borrow.Author.Tests.{eqb-true, eq-eqb, ne-eqb}
 use Rattle.forms.specs.Chain.{fromValue, runningAfter, valueAfter, chains, ownEntries}
 use Rattle.forms.specs.ChainLaws.{chains-append, openings-counted, value-snoc, step-own}
 use Rattle.forms.specs.Limits.{nonceLen}
@@ -22,14 +22,16 @@ use Rattle.forms.specs.declared.entry.Entry.{Entry}
 use Rattle.forms.specs.declared.terms.CounterId.{CounterId}
 use Rattle.forms.specs.declared.terms.GlobalClock.{GlobalClock}
 use Rattle.validity.specs.Proof.{encode}
+use Rattle.log_image.specs.FitLaws.{entries-fit-drop}
 use Rattle.log_image.specs.ImageRoundTrip.{StateFits}
-use Rattle.log_image.specs.State.{Record, State}
-use Rattle.log_image.specs.Sound.{holds, distinct, bounded, oldest, consecutive, base, spanned, named, after, chained, ending, soundState}
+use Rattle.log_image.specs.State.{State}
+use Rattle.log_image.specs.Sound.{holds, consecutive, base, after, ending, soundState}
 use Rattle.log_image.specs.LookupLaws.{zero-unheld}
 use Rattle.desk.specs.declared.answer.Answer.{Answer}
 use Rattle.desk.specs.Desk.{allYes, verified}
-use Rattle.host.specs.LastLaws.{consecutive-drop}
-use Rattle.host.specs.Host.{recordOf, heldOf, entriesOf, runningOf, hasEntry, requestNonce, proofOf, lastEntries, lastOf}
+use Rattle.host.specs.HeldLaws.{Held, held-within, held-chains, entries-consecutive}
+use Rattle.host.specs.Host.{heldOf, entriesOf, runningOf, hasEntry, requestNonce, proofOf, lastEntries, lastOf}
+use Rattle.host.specs.SoundParts.{SoundState, sound-parts}
 use Rattle.assurance.specs.AcceptLaws.{SetOut, read-accepted, increment-accepted}
 
 -- ---- some of the entries
@@ -43,13 +45,7 @@ consecutive-take g (e ∷ es) (suc k) steps =
     let parts = both (eqb (e .reading .0) (g + 1)) (consecutive (g + 1) es) steps in
     ap₂ _&&_ (parts .0) (consecutive-take (g + 1) es k (parts .1))
 
--- entries that fit their widths do so after a reading
-pub fit-drop : (es : List Entry) (k : ℕ) → EntriesFit es → EntriesFit (drop k es)
-fit-drop es zero fit = fit
-fit-drop [] (suc k) fit = fit
-fit-drop (e ∷ es) (suc k) (one-more fits more) = fit-drop es k more
-
--- and up to one
+-- entries that fit their widths do so up to a reading
 pub fit-take : (es : List Entry) (k : ℕ) → EntriesFit es → EntriesFit (take k es)
 fit-take es zero fit = none
 fit-take [] (suc k) fit = none
@@ -73,39 +69,6 @@ set-out-take id c es k set-out =
       steps = consecutive-take (c .reading .0) es k (set-out .steps);
       chain = chains-take id (c .value) es k (set-out .chain);
     }
-
--- ---- a counter's record
-
--- what soundness says of the record of a held counter
-pub record HeldRecord (clock : GlobalClock) (rs : List Record) (from : ℕ) (log : List Entry) (id : CounterId) (r : Record) : Type 0 where
-  pub own : r .held .id ≡ id
-  pub low : r .held .value ≤ r .held .reading .0
-  pub high : r .held .reading .0 ≤ clock .0
-  pub old : oldest clock rs ≤ r .held .reading .0
-  pub chain : chains (r .held .id) (r .held .value) (after from (r .held .reading) log) ≡ true
-
--- the record looked up is such a one
-pub held-record : (clock : GlobalClock) (rs : List Record) (from : ℕ) (log : List Entry) (id : CounterId)
-    → holds rs id ≡ true → bounded clock rs ≡ true → chained from log rs ≡ true → HeldRecord clock rs from log id (recordOf rs id)
-unfolding holds recordOf bounded chained oldest
-held-record clock [] from log id held bound chain = absurd (false≢true held)
-held-record clock (r ∷ rs) from log id held bound chain =
-    let first = both (leb (r .held .value) (r .held .reading .0)) (leb (r .held .reading .0) (clock .0) && bounded clock rs) bound in
-    let second = both (leb (r .held .reading .0) (clock .0)) (bounded clock rs) (first .1) in
-    let links = both (chains (r .held .id) (r .held .value) (after from (r .held .reading) log)) (chained from log rs) chain in
-    go (leb-true (r .held .value) (r .held .reading .0) (first .0)) (leb-true (r .held .reading .0) (clock .0) (second .0)) (links .0)
-    (sameId (r .held .id) id) refl held (λ among. held-record clock rs from log id among (second .1) (links .1))
-  where
-    go : r .held .value ≤ r .held .reading .0 → r .held .reading .0 ≤ clock .0
-        → chains (r .held .id) (r .held .value) (after from (r .held .reading) log) ≡ true
-        → (own : Bool) → sameId (r .held .id) id ≡ own → (own || holds rs id) ≡ true
-        → (holds rs id ≡ true → HeldRecord clock rs from log id (recordOf rs id))
-        → HeldRecord clock (r ∷ rs) from log id (cond own r (recordOf rs id))
-    go low high link true is held others =
-        record { own = same-id (r .held .id) id is; low = low; high = high; old = omega arith; chain = link }
-    go low high link false is held others =
-        let there = others held in
-        record { own = there .own; low = there .low; high = there .high; old = omega (arith, there .old); chain = there .chain }
 
 -- ---- the entry asked for
 
@@ -175,68 +138,36 @@ request-later id t g (e ∷ es) (suc k) steps less =
 
 -- ---- the proofs set out from a sound state
 
--- the clauses of soundness that speak of a counter
-record Clauses (st : State) : Type 0 where
-  differ : distinct (st .records) ≡ true
-  bound : bounded (st .clock) (st .records) ≡ true
-  span : base st + length (st .log) ≡ st .clock .0
-  steps : consecutive (base st) (st .log) ≡ true
-  chain : chained (base st) (st .log) (st .records) ≡ true
-
--- a sound state has them
-clauses : (st : State) → soundState st ≡ true → Clauses st
-unfolding soundState spanned
-clauses st sound =
-    let first = both (distinct (st .records)) _ sound in
-    let second = both (bounded (st .clock) (st .records)) _ (first .1) in
-    let third = both (spanned st) _ (second .1) in
-    let fourth = both (named (st .records) (st .log)) _ (third .1) in
-    let span = both (eqb (base st + length (st .log)) (st .clock .0)) (consecutive (base st) (st .log)) (third .0) in
-    record {
-      differ = first .0;
-      bound = second .0;
-      span = eqb-true (base st + length (st .log)) (st .clock .0) (span .0);
-      steps = span .1;
-      chain = fourth .1;
-    }
-
 module _ (st : State) (id : CounterId) (sound : soundState st ≡ true) (fits : StateFits st) (id-fits : id .0 < 2 ^ 32) (held : holds (st .records) id ≡ true) where
-  -- the counter's record
-  record-is : HeldRecord (st .clock) (st .records) (base st) (st .log) id (recordOf (st .records) id)
-  record-is =
-      let parts = clauses st sound in
-      held-record (st .clock) (st .records) (base st) (st .log) id held (parts .bound) (parts .chain)
+  parts : SoundState st
+  parts = sound-parts st sound
+
+  -- what soundness says of the counter's record
+  mine : Held st id
+  mine = held-within st id parts held
 
   -- a held counter is not 0
   counter-some : id .0 ≡ 0 → ⊥
-  counter-some zero-id = true≢false (sym held ∙ zero-unheld (st .records) id (clauses st sound .differ) zero-id)
+  counter-some zero-id = true≢false (sym held ∙ zero-unheld (st .records) id (parts .differ) zero-id)
 
   -- how many entries stand after its held reading
   pub entries-count : st .clock .0 ≡ heldOf st id .reading .0 + length (entriesOf st id)
   unfolding after
-  entries-count =
-      let r = record-is in
-      let c = clauses st sound in
-      simp length-drop (omega (arith, r .old, r .high, c .span))
+  entries-count = simp length-drop (omega (arith, mine .after-base, mine .past, parts .span))
 
   -- they are what a proof for the counter says
   pub entries-set-out : SetOut id (heldOf st id) (entriesOf st id)
   unfolding after
   entries-set-out =
-      let r = record-is in
-      let c = clauses st sound in
-      let from : base st + (heldOf st id .reading .0 - base st) ≡ heldOf st id .reading .0 = omega (arith, r .old) in
-      let same : heldOf st id .id .0 ≡ id .0 = ap (λ (i : CounterId). i .0) (r .own) in
+      let same : heldOf st id .id .0 ≡ id .0 = ap (λ (i : CounterId). i .0) (mine .own) in
       record {
-        own = r .own;
-        low = r .low;
-        fits = record { id = omega arith; value = omega (arith, r .low, r .high, fits .clock); reading = omega (arith, r .high, fits .clock) };
+        own = mine .own;
+        low = mine .low;
+        fits = record { id = omega arith; value = omega (arith, mine .low, mine .past, fits .clock); reading = omega (arith, mine .past, fits .clock) };
         few = simp length-drop (omega (arith, fits .entries));
-        entries-fit = fit-drop (st .log) (heldOf st id .reading .0 - base st) (fits .log);
-        steps =
-            ap (λ (g : ℕ). consecutive g (entriesOf st id)) (sym from)
-            ∙ consecutive-drop (base st) (st .log) (heldOf st id .reading .0 - base st) (omega (arith, r .old, r .high, c .span)) (c .steps);
-        chain = ap (λ (i : CounterId). chains i (heldOf st id .value) (entriesOf st id)) (sym (r .own)) ∙ r .chain;
+        entries-fit = entries-fit-drop (heldOf st id .reading .0 - base st) (st .log) (fits .log);
+        steps = entries-consecutive st id parts held;
+        chain = held-chains st id parts held;
       }
 
   -- the desk accepts what `prove` sets out, and shows the end of the counter's chain at the clock
@@ -246,7 +177,7 @@ module _ (st : State) (id : CounterId) (sound : soundState st ≡ true) (fits : 
   prove-accepted nonce long =
       read-accepted id nonce (heldOf st id) (entriesOf st id) entries-set-out (record { counter = counter-some; long = long })
       (record { reading = st .clock; nonce = nonce }) refl entries-count (fits .clock)
-      ∙ ap (λ (i : CounterId). Answer.Accepted (runningAfter i (fromValue (heldOf st id .value)) (entriesOf st id)) (st .clock)) (sym (record-is .own))
+      ∙ ap (λ (i : CounterId). Answer.Accepted (runningAfter i (fromValue (heldOf st id .value)) (entriesOf st id)) (st .clock)) (sym (mine .own))
 
   -- the desk accepts what `last` sets out for the nonce of the counter's request in entry t, and shows t and the number of the counter's
   -- entries up to it
@@ -255,13 +186,12 @@ module _ (st : State) (id : CounterId) (sound : soundState st ≡ true) (fits : 
       ≡ Answer.Accepted (record { value = t .0; openings = ownEntries id (lastEntries st id t) }) t
   unfolding after valueAfter
   last-accepted t has =
-      let r = record-is in
       let set-out = entries-set-out in
       let f = found id t (heldOf st id .reading .0) (entriesOf st id) (set-out .entries-fit) (set-out .steps) has in
       let c = heldOf st id in
-      let later : base st + (c .reading .0 - base st) < t .0 = omega (arith, r .old, f .later) in
+      let later : base st + (c .reading .0 - base st) < t .0 = omega (arith, mine .after-base, f .later) in
       let asked : f .last .nonce ≡ requestNonce id t (st .log) =
-      f .asked ∙ request-later id t (base st) (st .log) (c .reading .0 - base st) (clauses st sound .steps) later in
+      f .asked ∙ request-later id t (base st) (st .log) (c .reading .0 - base st) (parts .steps) later in
       let value : valueAfter id (c .value) (lastEntries st id t) ≡ t .0 =
       ap (valueAfter id (c .value)) (f .cut)
       ∙ value-snoc id (c .value) (f .front) (f .last)
