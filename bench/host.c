@@ -17,7 +17,9 @@
 enum { LISTS = 1500, ROUNDS = 300, CALLS = 20, IMPLEMENTATIONS = 3, FIRST_NUMBER = 14, NUMBERS = 27 };
 /* Room to lend an image, an output or a nonce longer than it should be. */
 enum { SLACK = 64 };
-enum { MAX_COUNTERS = 64, RECORDS = 28, LOG = 796, CLOCK = 4, COUNTERS = 8, ENTRIES = 16 };
+enum { MAX_COUNTERS = 64, RECORDS = 28, RECORD_LEN = 16, LOG = 1052, CLOCK = 4, COUNTERS = 8, ENTRIES = 16 };
+/* Where a record's figures stand. */
+enum { VALUE = 4, READING = 8, CURRENT = 12 };
 
 static const char *const names[IMPLEMENTATIONS] = {"vmc_host_*", "C, linear search", "C, table of hints"};
 
@@ -124,10 +126,10 @@ static uint32_t near(uint32_t x)
 /* The value of the record's counter at a reading, as an image that is sound has it. */
 static uint32_t value_at(const uint8_t *image, const uint8_t *record, uint32_t reading)
 {
-    uint32_t value = be32(record + 4);
+    uint32_t value = be32(record + VALUE);
     for (uint32_t k = 0; k < be32(image + ENTRIES); k++) {
         const uint8_t *entry = image + LOG + 32 * k;
-        if (be32(entry) > be32(record + 8) && be32(entry) <= reading && be32(entry + 24) == be32(record))
+        if (be32(entry) > be32(record + READING) && be32(entry) <= reading && be32(entry + 24) == be32(record))
             value = be32(entry);
     }
     return value;
@@ -154,8 +156,8 @@ static void choose(struct call *c, const uint8_t *image, const struct habit *hab
 {
     uint32_t clock = be32(image + CLOCK), entries = be32(image + ENTRIES), counters = be32(image + COUNTERS);
     uint32_t index = counters == 0 || counters > MAX_COUNTERS ? 0 : below(counters);
-    const uint8_t *record = image + RECORDS + 12 * index;
-    uint32_t held = be32(record + 8);
+    const uint8_t *record = image + RECORDS + RECORD_LEN * index;
+    uint32_t held = be32(record + READING);
 
     c->kind = any_kind(habit);
     c->image_len = below(200) != 0 ? VMC_IMAGE_LEN : below(2) == 0 ? below(VMC_IMAGE_LEN) : VMC_IMAGE_LEN + below(SLACK);
@@ -222,11 +224,20 @@ static void compare_call(struct tally *tally, struct buffers *buffers, const str
     }
 }
 
-/* One random change of an image; any may leave it sound. */
+/* The record of some counter of a sound image, or its first record where there is none. */
+static uint8_t *some_record(uint8_t *image)
+{
+    uint32_t counters = be32(image + COUNTERS);
+    return image + RECORDS + RECORD_LEN * (counters == 0 ? 0 : below(counters));
+}
+
+/* One random change of a sound image; any may leave it sound. */
 static void damage(uint8_t *image)
 {
     uint32_t used = LOG + 32 * be32(image + ENTRIES);
-    switch (below(5)) {
+    const uint8_t *from;
+
+    switch (below(7)) {
     case 0:
         image[below(28)] = (uint8_t)below(256);
         break;
@@ -237,7 +248,14 @@ static void damage(uint8_t *image)
         image[4 * below(used < VMC_IMAGE_LEN ? used / 4 : VMC_IMAGE_LEN / 4) + 3] ^= (uint8_t)(1 + below(3));
         break;
     case 3: /* one counter's id becomes another's */
-        memmove(image + RECORDS + 12 * below(MAX_COUNTERS), image + RECORDS + 12 * below(MAX_COUNTERS), 4);
+        memmove(image + RECORDS + RECORD_LEN * below(MAX_COUNTERS), image + RECORDS + RECORD_LEN * below(MAX_COUNTERS), 4);
+        break;
+    case 4: /* the last byte of a current value */
+        some_record(image)[CURRENT + 3] ^= (uint8_t)(1 + below(3));
+        break;
+    case 5: /* a current value becomes another one, or a confirmed one */
+        from = some_record(image) + (below(2) == 0 ? CURRENT : VALUE);
+        memmove(some_record(image) + CURRENT, from, 4);
         break;
     default:
         image[below(VMC_IMAGE_LEN)] ^= (uint8_t)(1 + below(255));
@@ -321,7 +339,7 @@ static void fill(struct buffers *b, uint32_t entries)
         ask(0, b, &c);
     }
     for (uint32_t i = 0; i < entries; i++) {
-        const uint8_t *record = b->image + RECORDS + 12 * (i % MAX_COUNTERS);
+        const uint8_t *record = b->image + RECORDS + RECORD_LEN * (i % MAX_COUNTERS);
         c.kind = INCREMENT;
         c.id = be32(record);
         c.value = value_at(b->image, record, be32(b->image + CLOCK));
@@ -374,7 +392,7 @@ int main(void)
         return 1;
     printf("Times with warm buffers: the same call is made again and again, on an image of 64 counters that each have every 64th entry.\n");
     struct call c = {.image_len = VMC_IMAGE_LEN, .out_len = VMC_PROOF_MAX_LEN, .nonce_len = VMC_NONCE_LEN, .verdict = 1};
-    const uint8_t *record = buffers[0].image + RECORDS + 12 * (MAX_COUNTERS / 2);
+    const uint8_t *record = buffers[0].image + RECORDS + RECORD_LEN * (MAX_COUNTERS / 2);
 
     fill(&buffers[0], VMC_PROOF_MAX_ENTRIES - 1);
     c.kind = INCREMENT;

@@ -1,5 +1,5 @@
-/* The host of document 01, with Note 1 of document 02, in plain C, to compare and to time the proved one against: answers and parameters
- * are those of vmc_host_* in include/vmc.h, with `lookup` before them in every call but start. */
+/* The host of document 01, with Notes 1 and 2 of document 02, in plain C, to compare and to time the proved one against: answers and
+ * parameters are those of vmc_host_* in include/vmc.h, with `lookup` before them in every call but start. */
 #ifndef HOST_PLAIN_H
 #define HOST_PLAIN_H
 

@@ -1,7 +1,8 @@
 /*
  * A server's day: the host keeps an image and sets out proofs, the desk judges them. The first twelve calls are document 01's example of the
  * program, and each prints a line as it does there: number and value, of the desk where a proof was written. Behind read's stand its
- * openings. Then one more raise, shown by its own increment.
+ * openings. Then one more raise, shown by its own increment, and what the dock's display shows at the end: every counter with its current
+ * value, found in the image without a call.
  */
 #include "vmc.h"
 
@@ -64,6 +65,19 @@ static vmc_host_figures prove(uint8_t b, uint32_t id)
     return vmc_host_prove(image, sizeof image, nonce(b), VMC_NONCE_LEN, id, proof, sizeof proof);
 }
 
+static uint32_t number_at(size_t at)
+{
+    return (uint32_t)image[at] << 24 | (uint32_t)image[at + 1] << 16 | (uint32_t)image[at + 2] << 8 | image[at + 3];
+}
+
+static void display(void)
+{
+    for (uint32_t i = 0; i < number_at(VMC_IMAGE_COUNTERS); i++) {
+        size_t record = VMC_IMAGE_RECORDS + (size_t)VMC_RECORD_LEN * i;
+        print(number_at(record), number_at(record + VMC_RECORD_CURRENT));
+    }
+}
+
 int main(void)
 {
     memset(verdicts, 1, sizeof verdicts);
@@ -83,6 +97,7 @@ int main(void)
 
     answer(increment(8, 7, 103));
     show(vmc_host_last(image, sizeof image, 7, 104, proof, sizeof proof), 7, nonce(8));
+    display();
 
     return fflush(stdout) == 0 ? 0 : 1;
 }

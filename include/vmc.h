@@ -1,6 +1,7 @@
 /*
  * The desk and the host for C and C++: document 01's "The desk", which verifies a validity proof of a counter, and "The host", which keeps
- * the server's log image and sets such proofs out; the openings are those of Note 1 of document 02. (The documents call a counter a box.)
+ * the server's log image and sets such proofs out; the openings are those of Note 1 of document 02, the image's form that of Note 2. (The
+ * documents call a counter a box.)
  *
  * To link, on x86-64 Linux, from the top of the repository:
  *
@@ -82,8 +83,21 @@ vmc_desk_figures vmc_desk_verify(const uint8_t *proof, size_t proof_len,
 
 /* ---- the host */
 
-/* An image has exactly this many bytes. */
-#define VMC_IMAGE_LEN 33564u
+/* An image has exactly this many bytes. Its form is 3; an image of another form is not sound. */
+#define VMC_IMAGE_LEN 33820u
+
+/*
+ * Where a display that can't walk the log finds the counters' current values. All numbers have four bytes, the highest first.
+ *
+ * At VMC_IMAGE_COUNTERS stands how many counters are held. Each has a record, in order of opening, the first at VMC_IMAGE_RECORDS and the next
+ * one VMC_RECORD_LEN behind it. A record begins with the counter's number, and at VMC_RECORD_CURRENT in it, its last four bytes, stands the
+ * counter's current value: in a sound image what vmc_host_read gives for that number. Every image that the calls below leave is sound; whether
+ * another one is, read itself says: it answers 14 where it is not.
+ */
+#define VMC_IMAGE_COUNTERS 8u
+#define VMC_IMAGE_RECORDS 28u
+#define VMC_RECORD_LEN 16u
+#define VMC_RECORD_CURRENT 12u
 
 /*
  * A host call's answer; read has one of its own, with a figure more.
@@ -136,13 +150,14 @@ typedef struct vmc_host_read_figures {
 /* Writes an image with a clock and no counters over whatever the buffer held. Gives the clock. */
 vmc_host_figures vmc_host_start(uint8_t *image, size_t image_len, uint32_t clock);
 
-/* Takes up a counter by its owner's confirmation. Gives how many counters are held. */
+/* Takes up a counter by its owner's confirmation, whose value is its current one. Gives how many counters are held. */
 vmc_host_figures vmc_host_open(uint8_t *image, size_t image_len, uint32_t id, uint32_t value, uint32_t reading, uint32_t verdict);
 
 /* The clock's next reading, without a request. Gives the reading. */
 vmc_host_figures vmc_host_tick(uint8_t *image, size_t image_len, const uint8_t *nonce, size_t nonce_len);
 
-/* The clock's next reading, with the request of a counter that states its value before. Gives the reading, the counter's new value. */
+/* The clock's next reading, with the request of a counter that states its value before. Gives the reading, which is the counter's current value
+ * from then on. */
 vmc_host_figures vmc_host_increment(uint8_t *image, size_t image_len, const uint8_t *nonce, size_t nonce_len, uint32_t id, uint32_t before,
                                     uint32_t verdict);
 
@@ -156,7 +171,8 @@ vmc_host_figures vmc_host_prove(uint8_t *image, size_t image_len, const uint8_t 
 /* Writes a proof of kind 2 up to the counter's entry with reading t to the front of the output. Gives its length. */
 vmc_host_figures vmc_host_last(uint8_t *image, size_t image_len, uint32_t id, uint32_t t, uint8_t *out, size_t out_len);
 
-/* Replaces a counter's confirmation by a later one and drops the entries that no counter needs. Gives how many entries are left. */
+/* Replaces a counter's confirmation by a later one and drops the entries that no counter needs. The current value stays. Gives how many entries
+ * are left. */
 vmc_host_figures vmc_host_confirm(uint8_t *image, size_t image_len, uint32_t id, uint32_t value, uint32_t reading, uint32_t verdict);
 
 #ifdef __cplusplus

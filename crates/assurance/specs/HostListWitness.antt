@@ -10,20 +10,24 @@ use borrow.Author.Tests.{eq-eqb}
 use Rattle.forms.specs.Bytes.{Bytes}
 use Rattle.forms.specs.Chain.{step, runningAfter, ownEntries}
 use Rattle.forms.specs.declared.running.Running.{Running}
+use Rattle.forms.specs.Confirmation.{confirmationBytes}
 use Rattle.forms.specs.Entry.{entryOf}
-use Rattle.forms.specs.Limits.{nonceLen, imageLen}
-use Rattle.forms.specs.Record.{taken}
+use Rattle.forms.specs.Limits.{nonceLen, recordsOffset, imageLen}
+use Rattle.forms.specs.Number.{be32}
+use Rattle.forms.specs.Record.{taken, currentPlace}
 use Rattle.forms.specs.Terms.{counterId, globalClock}
 use Rattle.forms.specs.declared.confirmation.Confirmation.{Confirmation}
 use Rattle.forms.specs.declared.event.Carried.{Carried}
 use Rattle.forms.specs.declared.terms.CounterId.{CounterId}
 use Rattle.forms.specs.declared.terms.GlobalClock.{GlobalClock}
 use Rattle.validity.specs.Proof.{shapeOf, proofLen}
-use Rattle.log_image.specs.FitLaws.{start-fits, append-entry-fits, store-written-fits, append-record-fits}
+use Rattle.log_image.specs.FitLaws.{start-fits, store-written-fits, append-record-fits}
 use Rattle.log_image.specs.ImageRoundTrip.{StateFits, decode-encode, encode-sound}
 use Rattle.log_image.specs.Sound.{holds, oldest, after, ending, soundState}
-use Rattle.log_image.specs.State.{State, decode, encode}
-use Rattle.host.specs.Host.{requestNonce, Settled, recordOf, runningOf, hasEntry, openRefusal, incrementRefusal, readRefusal, started, opened, raised, counted, proofOf, lastEntries, lastOf, settled, answered, startCall, openCall, incrementCall, proveCall, lastCall, proveOutput, lastOutput, proveRefusal, lastRefusal}
+use Rattle.log_image.specs.State.{State, recordsBytes, headerOf, decode, encode}
+use Rattle.host.specs.Host.{requestNonce, Settled, recordOf, runningOf, hasEntry, openRefusal, incrementRefusal, readRefusal, started, opened, updated, incremented, counted, proofOf, lastEntries, lastOf, settled, answered, startCall, openCall, incrementCall, readCall, proveCall, lastCall, proveOutput, lastOutput, proveRefusal, lastRefusal}
+use Rattle.host.specs.DisplayLaws.{display-reads}
+use Rattle.host.specs.IncrementStores.{raised-fits, incremented-fits}
 use Rattle.host.specs.OpenLaws.{opened-sound}
 use Rattle.host.specs.RaiseLaws.{started-sound, counted-sound, incremented-sound}
 use Rattle.host.specs.SettledLaws.{answered-done, settled-done}
@@ -86,7 +90,7 @@ abbrev holding : State
 holding = opened begun signed
 
 abbrev asked : State
-asked = raised holding (Carried.Request seven 100) (nonceOf 1)
+asked = incremented holding (nonceOf 1) seven 100
 
 abbrev shown : State
 shown = counted asked
@@ -108,23 +112,23 @@ abbrev lastLen : State → ℕ
 lastLen st = proofLen (shapeOf (lastOf st seven (globalClock 101)))
 
 prove-long : proveLen asked ≡ 92
-unfolding recordOf oldest after
+unfolding recordOf updated oldest after
 prove-long = refl
 
 last-long : lastLen shown ≡ 68
-unfolding recordOf oldest after
+unfolding recordOf updated oldest after
 last-long = refl
 
 prove-passes : proveRefusal asked (nonceOf 2) seven (proveLen asked) (length room) ≡ 0
-unfolding holds recordOf oldest after
+unfolding holds recordOf updated oldest after
 prove-passes = refl
 
 last-passes : lastRefusal shown seven (globalClock 101) (lastLen shown) (length room) ≡ 0
-unfolding holds recordOf oldest after hasEntry entryOf
+unfolding holds recordOf updated oldest after hasEntry entryOf
 last-passes = refl
 
 read-passes : readRefusal asked seven ≡ 0
-unfolding holds
+unfolding holds updated
 read-passes = refl
 
 -- every state is sound and fits
@@ -132,13 +136,12 @@ begun-fits : StateFits begun
 begun-fits = start-fits (globalClock 100) (lit< tt)
 
 holding-fits : StateFits holding
-holding-fits = append-record-fits begun begun-fits (taken signed) (record { held = record { id = lit< tt; value = lit< tt; reading = lit< tt } }) (lit< tt)
+holding-fits = append-record-fits begun begun-fits (taken signed) (record { held = record { id = lit< tt; value = lit< tt; reading = lit< tt }; current = lit< tt }) (lit< tt)
 
 asked-fits : StateFits asked
-unfolding entryOf
 asked-fits =
-    append-entry-fits holding holding-fits (entryOf (globalClock 101) (Carried.Request seven 100) (nonceOf 1)) (globalClock 101)
-    (record { reading = lit< tt; nonce = refl; id = lit< tt; before = lit< tt }) (nonce-bytes 1 (lit< tt)) (lit< tt) (lit< tt)
+    incremented-fits holding (nonceOf 1) seven 100
+    (raised-fits holding (Carried.Request seven 100) (nonceOf 1) holding-fits (nonce-bytes 1 (lit< tt)) refl (lit< tt, lit< tt) (lit< tt) (lit< tt))
 
 shown-fits : StateFits shown
 shown-fits = store-written-fits asked asked-fits 1 (lit< tt)
@@ -185,7 +188,7 @@ asked-image : incrementCall (encode holding) (nonceOf 1) seven 100 1 .image ≡ 
 asked-image =
     ap (λ (r : Settled). r .image)
     (works holding holding-fits holding-sound (λ st. incrementRefusal st (nonceOf 1) seven 100 1) (λ st. st .clock .0 + 1)
-    (λ st. raised st (Carried.Request seven 100) (nonceOf 1)) raise-passes)
+    (λ st. incremented st (nonceOf 1) seven 100) raise-passes)
 
 -- what prove answers, and the image after it
 prove-ends : proveCall (encode asked) (nonceOf 2) seven (length room) ≡ record { figures = record { number = 0; value = proveLen asked }; image = encode shown }
@@ -198,13 +201,18 @@ last-ends = works shown shown-fits shown-sound (λ st. lastRefusal st seven (glo
 
 -- what read shows where prove is called: 101, and one opening
 read-shows : readRunning (encode asked) seven ≡ record { value = 101; openings = 1 }
-unfolding holds recordOf ending oldest after runningAfter step entryOf
+unfolding holds recordOf updated ending oldest after runningAfter step entryOf
 read-shows =
     let figures : (part : Running → ℕ) → answered (encode asked) (readRefusal (decode (encode asked)) seven) (part (runningOf (decode (encode asked)) seven))
     ≡ record { number = 0; value = part (runningOf asked seven) } = λ part.
     ap (λ (st : State). answered (encode asked) (readRefusal st seven) (part (runningOf st seven))) (decode-encode asked asked-fits)
     ∙ answered-done (encode asked) (readRefusal asked seven) (part (runningOf asked seven)) (encode-sound asked asked-fits asked-sound) read-passes in
     ap₂ (λ (f g : Figures). record { value = f .value; openings = g .value }) (figures (λ r. r .value)) (figures (λ r. r .openings))
+
+-- and so does the dock's display, which looks at the last four bytes of the first record, by the law that it relies on
+pub display-shows : (be32 (encode asked) (currentPlace recordsOffset) ≡ 101) × (readCall (encode asked) seven .value ≡ 101)
+unfolding encode headerOf recordsBytes confirmationBytes updated
+display-shows = (refl, display-reads (encode asked) 0 (encode-sound asked asked-fits asked-sound) (lit< tt) .1)
 
 -- ---- what the claim says along it
 
@@ -257,7 +265,7 @@ ByLast n st =
 
 -- and the 68 bytes that last wrote, under the nonce of the increment
 pub last-taken : Taken (take 68 (lastOutput (encode shown) seven (globalClock 101) room)) (lastOf shown seven (globalClock 101)) seven (nonceOf 1) once (globalClock 101)
-unfolding Runs requestNonce entryOf recordOf oldest after ownEntries
+unfolding Runs requestNonce entryOf recordOf updated oldest after ownEntries
 last-taken =
     let number = ap (λ (r : Settled). r .figures .number) last-ends in
     let value = ap (λ (r : Settled). r .figures .value) last-ends ∙ last-long in

@@ -10,8 +10,7 @@ use lib.ListN.{length}
 use borrow.Author.Tests.{eqb-true, eqb-false, eq-eqb, not-true}
 use Rattle.forms.specs.Bytes.{Bytes}
 use Rattle.forms.specs.Checks.{Row, firstOf}
-use Rattle.forms.specs.Entry.{entryOf}
-use Rattle.forms.specs.Limits.{largest, nonceLen, imageLen, maxEntries}
+use Rattle.forms.specs.Limits.{largest, imageLen, maxEntries}
 use Rattle.forms.specs.PartsLaws.{ConfirmationFits}
 use Rattle.forms.specs.TestsLaws.{both}
 use Rattle.forms.specs.Record.{taken}
@@ -21,14 +20,15 @@ use Rattle.forms.specs.declared.event.Carried.{Carried}
 use Rattle.forms.specs.declared.terms.CounterId.{CounterId}
 use Rattle.forms.specs.declared.terms.GlobalClock.{GlobalClock}
 use Rattle.validity.specs.Proof.{shapeOf, proofLen}
-use Rattle.log_image.specs.FitLaws.{start-fits, append-entry-fits, store-clock-fits, store-written-fits, append-record-fits, drop-entries-fits}
+use Rattle.log_image.specs.FitLaws.{start-fits, store-clock-fits, store-written-fits, append-record-fits, drop-entries-fits}
 use Rattle.log_image.specs.ImageRoundTrip.{StateFits, length-encode, encode-bytes, encode-sound, decode-fits, sound-decode, sound-laid-out}
 use Rattle.log_image.specs.Sound.{base, soundState, sound}
 use Rattle.log_image.specs.State.{State, decode, encode}
 use Rattle.host.specs.ConfirmLaws.{confirmed-sound}
 use Rattle.host.specs.ConfirmStores.{replacedState, replaced-fits}
 use Rattle.host.specs.EffectLaws.{clock-runs, entry-room, record-room}
-use Rattle.host.specs.Host.{Settled, openRefusal, tickRefusal, incrementRefusal, confirmRefusal, openRows, tickRows, incrementRows, readRows, proveRows, lastRows, confirmRows, started, opened, raised, noneHeld, advanced, ticked, counted, confirmedState, settled, startCall, readRefusal, currentOf, proofOf, lastOf, proveRefusal, lastRefusal, readCall}
+use Rattle.host.specs.Host.{Settled, openRefusal, tickRefusal, incrementRefusal, confirmRefusal, openRows, tickRows, incrementRows, readRows, proveRows, lastRows, confirmRows, started, opened, raised, incremented, noneHeld, advanced, ticked, counted, confirmedState, settled, startCall, readRefusal, currentOf, proofOf, lastOf, proveRefusal, lastRefusal, readCall}
+use Rattle.host.specs.IncrementStores.{raised-fits, incremented-fits}
 use Rattle.host.specs.OpenLaws.{opened-sound}
 use Rattle.host.specs.RaiseLaws.{started-sound, counted-sound, incremented-sound, ticked-sound}
 use Rattle.host.specs.RefusalLaws.{open-passed, tick-passed, increment-passed}
@@ -105,22 +105,6 @@ start-steps s clock long small =
 
 -- ---- the next state of a call that is not refused
 
--- what an increment carries, in its widths
-abbrev CarriedFits : Carried → Type 0
-CarriedFits (Carried.Request id before) = (id .0 < 2 ^ 32) × (before < 2 ^ 32)
-CarriedFits Carried.Tick = Unit {0}
-
--- clock + 1 and the new entry fit
-raised-fits : (st : State) (carried : Carried) (nonce : List ℕ) → StateFits st → Bytes nonce → length nonce ≡ nonceLen → CarriedFits carried
-    → st .clock .0 < largest → length (st .log) < maxEntries → StateFits (raised st carried nonce)
-unfolding entryOf
-raised-fits st (Carried.Request id before) nonce fits bytes long carried running room =
-    append-entry-fits st fits (entryOf (globalClock (st .clock .0 + 1)) (Carried.Request id before) nonce) (globalClock (st .clock .0 + 1))
-    (record { reading = omega arith; nonce = long; id = carried .0; before = carried .1 }) bytes (omega arith) room
-raised-fits st Carried.Tick nonce fits bytes long carried running room =
-    append-entry-fits st fits (entryOf (globalClock (st .clock .0 + 1)) Carried.Tick nonce) (globalClock (st .clock .0 + 1))
-    (record { reading = omega arith; nonce = long; id = omega arith; before = omega arith }) bytes (omega arith) room
-
 module _ (s : List ℕ) (kept : Kept s) where
   state-sound : soundState (decode s) ≡ true
   state-sound = kept-steady s kept .0
@@ -131,7 +115,7 @@ module _ (s : List ℕ) (kept : Kept s) where
   open-steady : (c : Confirmation) (verdict : ℕ) → ConfirmationFits c → openRefusal (decode s) c verdict ≡ 0 → Steady (opened (decode s) c)
   open-steady c verdict fits none =
       let p = open-passed (decode s) c verdict none in
-      (opened-sound (decode s) c verdict state-sound none, append-record-fits (decode s) state-fits (taken c) (record { held = fits }) (record-room s (kept .bytes) (kept .is-sound) (p .room)))
+      (opened-sound (decode s) c verdict state-sound none, append-record-fits (decode s) state-fits (taken c) (record { held = fits; current = fits .value }) (record-room s (kept .bytes) (kept .is-sound) (p .room)))
 
   tick-steady : (nonce : List ℕ) → Bytes nonce → tickRefusal (decode s) nonce ≡ 0 → Steady (ticked (decode s) nonce)
   tick-steady nonce bytes none = (ticked-sound (decode s) nonce state-sound, go (noneHeld (decode s)))
@@ -147,12 +131,13 @@ module _ (s : List ℕ) (kept : Kept s) where
       go false = raised-fits (decode s) Carried.Tick nonce state-fits bytes (tick-passed (decode s) nonce none .long) tt running room
 
   increment-steady : (nonce : List ℕ) (id : CounterId) (before verdict : ℕ) → Bytes nonce → id .0 < 2 ^ 32 → before < 2 ^ 32
-      → incrementRefusal (decode s) nonce id before verdict ≡ 0 → Steady (raised (decode s) (Carried.Request id before) nonce)
+      → incrementRefusal (decode s) nonce id before verdict ≡ 0 → Steady (incremented (decode s) nonce id before)
   increment-steady nonce id before verdict bytes id-fits before-fits none =
       let p = increment-passed (decode s) nonce id before verdict none in (
         incremented-sound (decode s) nonce id before verdict state-sound none,
-        raised-fits (decode s) (Carried.Request id before) nonce state-fits bytes (p .long) (id-fits, before-fits)
-            (clock-runs s (kept .bytes) (kept .is-sound) (p .running)) (entry-room s (kept .bytes) (kept .is-sound) (p .room)),
+        incremented-fits (decode s) nonce id before
+            (raised-fits (decode s) (Carried.Request id before) nonce state-fits bytes (p .long) (id-fits, before-fits)
+            (clock-runs s (kept .bytes) (kept .is-sound) (p .running)) (entry-room s (kept .bytes) (kept .is-sound) (p .room))),
       )
 
   -- the count of proofs stops at the largest number of 32 bits

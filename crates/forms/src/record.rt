@@ -1,5 +1,7 @@
-// A counter's record in an image: document 01, "The host".
+// A counter's record in an image: document 01, "The host", and Note 2 of document 02.
 use crate::confirmation::Confirmation;
+use crate::number::get_u32;
+use crate::number::put_u32;
 ghost use mathlib.Core.Path.{_≡_};
 ghost use Rattle.forms.specs.Bytes.{overwrite};
 ghost use Rattle.forms.specs.Limits.{recordLen};
@@ -8,10 +10,15 @@ ghost use Rattle.forms.specs.Record.{recordAt, recordBytes, taken};
 pub struct Record {
     // The latest confirmation.
     pub held: Confirmation,
+    // The counter's value at the image's clock.
+    pub current: u32,
 }
 
 impl Record {
-    pub const LEN: usize = Confirmation::LEN;
+    // Where the current value stands in it.
+    pub const CURRENT: usize = Confirmation::LEN;
+
+    pub const LEN: usize = Record::CURRENT + 4;
 
     // The record of a counter that is taken up.
     //
@@ -20,17 +27,26 @@ impl Record {
         ensures { λ r. ⌜ r ≡ taken held ⌝ }
         ensures { λ _. do ⌜ (← ⟦Record::LEN⟧ .entry) ≡ recordLen ⌝ }
     {
-        Record { held }
+        Record {
+            held,
+            current: held.value,
+        }
     }
 
     // The record at a place of a slice.
     //
-    // Ruled out, among others: the record behind it; one whose value and reading are exchanged.
+    // Ruled out, among others: the record behind it; one whose confirmed and current value are exchanged.
     pub fn read(s: &[u8], at: usize) -> Self
         ensures { λ r. ⌜ r ≡ recordAt (now (s .entry)) at ⌝ }
     {
         let held = Confirmation::read(s, at);
-        Record { held }
+        if s.len() <= at {
+            return Record { held, current: 0 };
+        }
+        Record {
+            held,
+            current: get_u32(s, at + Record::CURRENT),
+        }
     }
 
     // Stores the record at a place of a slice, or nothing where it does not fit there.
@@ -39,6 +55,13 @@ impl Record {
     pub fn write(self, s: &mut [u8], at: usize)
         ensures { λ _. ⌜ now (s .exit) ≡ overwrite (now (s .entry)) at (recordBytes self) ⌝ }
     {
-        self.held.write(s, at)
+        if s.len() < at {
+            return;
+        }
+        if s.len() - at < Record::LEN {
+            return;
+        }
+        self.held.write(s, at);
+        put_u32(s, at + Record::CURRENT, self.current);
     }
 }

@@ -1,7 +1,7 @@
 -- What holds of every record of a list, and the record of a held counter among them: that of a counter found, one
 -- more behind, one changed. Assumes nothing.
 use mathlib.Core.Path.{_≡_, refl, sym, ap, ap₂, subst, _∙_}
-use Prim.Native.Nat.{suc, _≤_, min}
+use Prim.Native.Nat.{ℕ, suc, _≤_, min}
 use native.Mathlib.Omega.{arith}
 use mathlib.Core.Bool.{Bool, true, false, not, cond, _&&_, _||_, false≢true, or-false, or-assoc}
 use mathlib.Core.List.{List, [], _∷_, _++_}
@@ -17,7 +17,7 @@ use Rattle.forms.specs.TestsLaws.{neither}
 use Rattle.log_image.specs.State.{Record}
 use Rattle.log_image.specs.Sound.{holds, indexOf, distinct, oldest}
 use Rattle.log_image.specs.PassLaws.{distinct-parts, nonzero}
-use Rattle.host.specs.Host.{recordOf, updated, confirmedBy}
+use Rattle.host.specs.Host.{recordOf, updated, raisedTo, confirmedBy}
 
 -- something holds of every record of a list
 pub data Each (P : Record → Type 0) : List Record → Type 0 where
@@ -115,16 +115,38 @@ distinct-snoc (x ∷ rs) r differ new some =
 
 -- ---- a counter's record changed
 
--- what holds of every record, and of the counter's own where it is changed, holds of every record then
-pub each-updated : {P : Record → Type 0} {rs : List Record} (id : CounterId) (change : Record → Record) → Each P rs
-    → ((r : Record) → sameId (r .held .id) id ≡ true → P r → P (change r)) → Each P (updated rs id change)
-unfolding updated
-each-updated id change done q = done
-each-updated {P} id change (more {r = r} {rs = rs} p ps) q = go (sameId (r .held .id) id) refl (each-updated id change ps q)
+-- where a counter is not held every record is another's
+each-other : {P Q : Record → Type 0} {rs : List Record} (id : CounterId) → holds rs id ≡ false → Each P rs
+    → ((r : Record) → sameId (r .held .id) id ≡ false → P r → Q r) → Each Q rs
+unfolding holds
+each-other id unheld done others = done
+each-other id unheld (more {r = r} {rs = rs} p ps) others =
+    let apart = neither (sameId (r .held .id) id) (holds rs id) unheld in
+    more (others r (apart .0) p) (each-other id (apart .1) ps others)
+
+-- what holds of every record gives another thing of every one, the counter's own changed
+pub each-updated : {P Q : Record → Type 0} {rs : List Record} (id : CounterId) (change : Record → Record) → distinct rs ≡ true → Each P rs
+    → (holds rs id ≡ true → Q (change (recordOf rs id))) → ((r : Record) → sameId (r .held .id) id ≡ false → P r → Q r) → Each Q (updated rs id change)
+unfolding updated holds
+each-updated id change differ done own others = done
+each-updated {P} {Q} id change differ (more {r = r} {rs = rs} p ps) own others =
+    go (sameId (r .held .id) id) refl (λ mine. each-updated id change (distinct-parts r rs differ .1) ps mine others)
   where
-    go : (b : Bool) → sameId (r .held .id) id ≡ b → Each P (updated rs id change) → Each P (cond b (change r ∷ rs) (r ∷ updated rs id change))
-    go true own rest = more (q r own p) ps
-    go false other rest = more p rest
+    go : (b : Bool) → sameId (r .held .id) id ≡ b → ((holds rs id ≡ true → Q (change (recordOf rs id))) → Each Q (updated rs id change))
+        → Each Q (cond b (change r ∷ rs) (r ∷ updated rs id change))
+    go true mine rest =
+        more (subst (λ (x : Record). Q (change x)) (record-own r rs id mine) (own (ap (λ (b : Bool). b || holds rs id) mine)))
+        (each-other id (ap (holds rs) (sym (same-id (r .held .id) id mine)) ∙ distinct-parts r rs differ .0) ps others)
+    go false apart rest =
+        more (others r apart p) (rest (λ held. subst (λ (x : Record). Q (change x)) (record-other r rs id apart) (own (ap (λ (b : Bool). b || holds rs id) apart ∙ held))))
+
+-- where the counter is not held nothing changes
+pub updated-unheld : (rs : List Record) (id : CounterId) (change : Record → Record) → holds rs id ≡ false → updated rs id change ≡ rs
+unfolding updated holds
+updated-unheld [] id change unheld = refl
+updated-unheld (r ∷ rs) id change unheld =
+    let apart = neither (sameId (r .held .id) id) (holds rs id) unheld in
+    ap (λ (b : Bool). cond b (change r ∷ rs) (r ∷ updated rs id change)) (apart .0) ∙ ap (λ (l : List Record). r ∷ l) (updated-unheld rs id change (apart .1))
 
 -- it is at the counter's index
 pub updated-set : (rs : List Record) (id : CounterId) (change : Record → Record) → updated rs id change ≡ set rs (indexOf rs id) (change (recordOf rs id))
@@ -180,3 +202,25 @@ module _ (id : CounterId) (change : Record → Record) (keeps : Keeps id change)
 -- a confirmation is of the counter whose record it changes
 pub confirmation-keeps : (c : Confirmation) → Keeps (c .id) (confirmedBy c)
 confirmation-keeps c r own = sym (same-id (r .held .id) (c .id) own)
+
+-- a change that leaves the record its confirmation leaves it its counter, and the oldest reading as it was
+abbrev pub KeepsHeld : (Record → Record) → Type 0
+KeepsHeld change = (r : Record) → change r .held ≡ r .held
+
+pub held-keeps : (id : CounterId) (change : Record → Record) → KeepsHeld change → Keeps id change
+held-keeps id change same r own = ap (λ (c : Confirmation). c .id) (same r)
+
+pub oldest-kept : (clock : GlobalClock) (rs : List Record) (id : CounterId) (change : Record → Record) → KeepsHeld change
+    → oldest clock (updated rs id change) ≡ oldest clock rs
+unfolding oldest updated
+oldest-kept clock [] id change same = refl
+oldest-kept clock (r ∷ rs) id change same = go (sameId (r .held .id) id) (oldest-kept clock rs id change same)
+  where
+    go : (b : Bool) → oldest clock (updated rs id change) ≡ oldest clock rs
+        → oldest clock (cond b (change r ∷ rs) (r ∷ updated rs id change)) ≡ min (r .held .reading .0) (oldest clock rs)
+    go true rest = ap (λ (c : Confirmation). min (c .reading .0) (oldest clock rs)) (same r)
+    go false rest = ap (λ (n : ℕ). min (r .held .reading .0) n) rest
+
+-- a raise is such a change
+pub raise-keeps : (reading : GlobalClock) → KeepsHeld (raisedTo reading)
+raise-keeps reading r = refl

@@ -143,6 +143,14 @@ confirmRefusal st c verdict = firstOf (confirmRows st c verdict) 0
 
 -- ---- effects
 
+-- the records with that of a counter changed
+unfoldable pub updated : List Record → CounterId → (Record → Record) → List Record
+updated [] id change = []
+updated (r ∷ rs) id change = cond (sameId (r .held .id) id) (change r ∷ rs) (r ∷ updated rs id change)
+
+abbrev pub updatedState : State → CounterId → (Record → Record) → State
+updatedState st id change = record { clock = st .clock; records = updated (st .records) id change; log = st .log; written = st .written }
+
 -- "start writes an image with a given clock, no boxes"
 abbrev pub started : GlobalClock → State
 started clock = record { clock = clock; records = []; log = []; written = 0 }
@@ -150,11 +158,20 @@ started clock = record { clock = clock; records = []; log = []; written = 0 }
 abbrev pub opened : State → Confirmation → State
 opened st c = record { clock = st .clock; records = st .records ++ (taken c ∷ []); log = st .log; written = st .written }
 
--- an increment: "Clock + 1 and the new entry are stored"
+-- tick and increment: "Clock + 1 and the new entry are stored"
 abbrev pub raised : State → Carried → List ℕ → State
 raised st carried nonce =
     let next : GlobalClock = globalClock (st .clock .0 + 1) in
     record { clock = next; records = st .records; log = st .log ++ (entryOf next carried nonce ∷ []); written = st .written }
+
+-- an increment also makes the new clock the current value in its counter's record
+abbrev pub raisedTo : GlobalClock → Record → Record
+raisedTo reading r = record { held = r .held; current = reading .0 }
+
+abbrev pub incremented : State → List ℕ → CounterId → ℕ → State
+incremented st nonce id before =
+    let next : State = raised st (Carried.Request id before) nonce in
+    updatedState next id (raisedTo (next .clock))
 
 -- "A tick with no box held keeps no entry"
 abbrev pub noneHeld : State → Bool
@@ -170,14 +187,9 @@ ticked st nonce = cond (noneHeld st) (advanced st) (raised st Carried.Tick nonce
 abbrev pub counted : State → State
 counted st = record { clock = st .clock; records = st .records; log = st .log; written = min (st .written + 1) largest }
 
--- the records with that of a counter changed
-unfoldable pub updated : List Record → CounterId → (Record → Record) → List Record
-updated [] id change = []
-updated (r ∷ rs) id change = cond (sameId (r .held .id) id) (change r ∷ rs) (r ∷ updated rs id change)
-
--- "confirm replaces the box's confirmation, then drops entries no longer needed"
+-- "confirm replaces the box's confirmation, then drops entries no longer needed"; the current value stays
 abbrev pub confirmedBy : Confirmation → Record → Record
-confirmedBy c r = record { held = c }
+confirmedBy c r = record { held = c; current = r .current }
 
 abbrev pub replaced : List Record → Confirmation → List Record
 replaced rs c = updated rs (c .id) (confirmedBy c)
@@ -239,7 +251,7 @@ tickCall s nonce =
 abbrev pub incrementCall : List ℕ → List ℕ → CounterId → ℕ → ℕ → Settled
 incrementCall s nonce id before verdict =
     let st : State = decode s in
-    settled s (incrementRefusal st nonce id before verdict) (st .clock .0 + 1) (raised st (Carried.Request id before) nonce)
+    settled s (incrementRefusal st nonce id before verdict) (st .clock .0 + 1) (incremented st nonce id before)
 
 -- read writes nothing. Beside the value it gives "the count of the box's entries after that confirmation too", which is 0 where the value is
 abbrev pub readCall : List ℕ → CounterId → ReadFigures

@@ -7,8 +7,8 @@ use mathlib.Core.Bool.{Bool, true, false, cond, _&&_, _||_, true≢false}
 use mathlib.Core.List.{List, [], _∷_, _++_}
 use lib.Dec.{eqb}
 use borrow.Author.Tests.{ne-eqb}
-use Rattle.forms.specs.Chain.{passes, chains}
-use Rattle.forms.specs.ChainLaws.{chains-cons, follows-other, step-other}
+use Rattle.forms.specs.Chain.{passes, chains, runningAfter, valueAfter}
+use Rattle.forms.specs.ChainLaws.{chains-cons, value-cons, follows-other, step-other}
 use Rattle.forms.specs.TestsLaws.{both}
 use Rattle.forms.specs.Record.{taken}
 use Rattle.forms.specs.Terms.{sameId}
@@ -22,19 +22,27 @@ use Rattle.host.specs.Host.{opened, openRefusal}
 use Rattle.host.specs.LogEndsLaws.{named-drop, named-wider}
 use Rattle.host.specs.EachRecordLaws.{Each, each-snoc, holds-snoc, distinct-snoc, oldest-snoc}
 use Rattle.host.specs.RefusalLaws.{OpenPassed, open-passed}
-use Rattle.host.specs.SoundParts.{Chained, SoundState, sound-parts, sound-whole}
+use Rattle.host.specs.SoundParts.{ChainsTo, Chained, SoundState, sound-parts, sound-whole}
 
--- where every entry names a held counter or 0, a counter that is neither has no entry, and its chain holds from any value; only open needs it
-pub unnamed-chains : (rs : List Record) (id : CounterId) (value : ℕ) (es : List Entry) → holds rs id ≡ false → (id .0 ≡ 0 → ⊥) → named rs es ≡ true
-    → chains id value es ≡ true
-unfolding named chains passes
-unnamed-chains rs id value [] unheld some names = refl
-unnamed-chains rs id value (e ∷ es) unheld some names =
+-- where every entry names a held counter or 0, a counter that is neither has no entry, and its chain ends where it begins; only open needs it
+pub unnamed-chains : (rs : List Record) (c : Confirmation) (es : List Entry) → holds rs (c .id) ≡ false → (c .id .0 ≡ 0 → ⊥) → named rs es ≡ true
+    → ChainsTo c es (c .value)
+unfolding named chains passes valueAfter runningAfter
+unnamed-chains rs c [] unheld some names = record { links = refl; end = refl }
+unnamed-chains rs c (e ∷ es) unheld some names =
+    let id = c .id in
+    let value = c .value in
     let parts = both (namesHeld rs e) (named rs es) names in
-    chains-cons id value e es
-    ∙ ap₂ _&&_ (follows-other id value e (other (sameId (e .id) id) refl (parts .0)))
-    (ap (λ (v : ℕ). chains id v es) (step-other id value e (other (sameId (e .id) id) refl (parts .0))) ∙ unnamed-chains rs id value es unheld some (parts .1))
+    let apart = other (sameId (e .id) id) refl (parts .0) in
+    let rest = unnamed-chains rs c es unheld some (parts .1) in
+    record {
+      links = chains-cons id value e es ∙ ap₂ _&&_ (follows-other id value e apart) (ap (λ (v : ℕ). chains id v es) (step-other id value e apart) ∙ rest .links);
+      end = rest .end ∙ sym (value-cons id value e es ∙ ap (λ (v : ℕ). valueAfter id v es) (step-other id value e apart));
+    }
   where
+    id : CounterId
+    id = c .id
+
     other : (b : Bool) → sameId (e .id) id ≡ b → namesHeld rs e ≡ true → sameId (e .id) id ≡ false
     other false apart name = apart
     other true own name =
@@ -56,7 +64,7 @@ opened-parts st c verdict s p =
       names = named-wider (st .records) (st .records ++ (taken c ∷ [])) (st .log) still (s .names);
       chain = subst (λ (b : ℕ). Each (Chained b (st .log)) (st .records ++ (taken c ∷ []))) same
           (each-snoc (s .chain)
-          (unnamed-chains (st .records) (c .id) (c .value) (after (base st) (c .reading) (st .log)) (p .unheld) (p .named)
+          (unnamed-chains (st .records) c (after (base st) (c .reading) (st .log)) (p .unheld) (p .named)
           (named-drop (st .records) (c .reading .0 - base st) (st .log) (s .names))));
     }
   where
