@@ -6,10 +6,10 @@ use mathlib.Core.Bool.{Bool, true, false, not, _||_}
 use mathlib.Core.List.{List, [], _∷_, _++_, append-nil}
 use native.Mathlib.Omega.{arith}
 use lib.ListN.{length, drop, getD, length-append}
-use lib.Seq.{drop-at, take-all}
+use lib.Seq.{drop-at}
 use borrow.Author.Tests.{eq-eqb, ne-eqb}
 use Rattle.forms.specs.Bytes.{same, window}
-use Rattle.forms.specs.BytesLaws.{same-refl, window-part}
+use Rattle.forms.specs.BytesLaws.{same-refl, window-whole}
 use Rattle.forms.specs.Chain.{fromValue, runningAfter, chains}
 use Rattle.forms.specs.Entry.{entryAt, entriesAt, logBytes}
 use Rattle.forms.specs.Limits.{nonceLen, entryLen, maxEntries}
@@ -50,8 +50,7 @@ wanted-passes id nonce wanted = ap₂ (λ (a b : Bool). a || not b) (ne-eqb (id 
 -- a nonce of twenty bytes compares as itself
 nonce-same : (own nonce : List ℕ) → length nonce ≡ nonceLen → own ≡ nonce → not (same own (window nonce 0 nonceLen)) ≡ false
 nonce-same own nonce long e =
-    let whole : window nonce 0 nonceLen ≡ nonce = window-part nonce 0 nonceLen (omega arith) ∙ take-all nonceLen nonce (omega arith) in
-    ap not (ap₂ same e whole ∙ same-refl nonce)
+    ap not (ap₂ same e (window-whole nonce nonceLen long) ∙ same-refl nonce)
 
 -- entries read back from where they were written
 entries-back : (s : List ℕ) (log : ℕ) (es : List Entry) → EntriesFit es → drop log s ≡ logBytes es → entriesAt s log (length es) ≡ es

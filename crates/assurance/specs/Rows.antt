@@ -7,10 +7,9 @@ use mathlib.Core.List.{List, [], _∷_}
 use native.Mathlib.Omega.{arith}
 use lib.Dec.{eqb, leb, ltb}
 use lib.ListN.{length, getD}
-use lib.Seq.{take-all}
 use borrow.Author.Tests.{eqb-true, eqb-false, eq-eqb, ltb-false, leb-true, not-false}
 use Rattle.forms.specs.Bytes.{same, window}
-use Rattle.forms.specs.BytesLaws.{same-equal, window-part}
+use Rattle.forms.specs.BytesLaws.{same-equal, window-whole}
 use Rattle.forms.specs.Chain.{follows}
 use Rattle.forms.specs.Checks.{Row, firstOf}
 use Rattle.forms.specs.Limits.{nonceLen}
@@ -118,13 +117,9 @@ pub module-said : (verdicts : List ℕ) (before n : ℕ) → Clear (moduleDenied
 unfolding moduleDenied
 module-said verdicts before n clear = clear
 
--- a nonce of twenty bytes, read as such
-nonce-whole : (nonce : List ℕ) → length nonce ≡ nonceLen → window nonce 0 nonceLen ≡ nonce
-nonce-whole nonce long = window-part nonce 0 nonceLen (omega arith) ∙ take-all nonceLen nonce (omega arith)
-
 -- a nonce that compares as the wanted one is it
 same-nonce : (own nonce : List ℕ) → length nonce ≡ nonceLen → not (same own (window nonce 0 nonceLen)) ≡ false → own ≡ nonce
-same-nonce own nonce long e = same-equal own (window nonce 0 nonceLen) (not-false (same own (window nonce 0 nonceLen)) e) ∙ nonce-whole nonce long
+same-nonce own nonce long e = same-equal own (window nonce 0 nonceLen) (not-false (same own (window nonce 0 nonceLen)) e) ∙ window-whole nonce nonceLen long
 
 module _ (kind : Kind) (n : ℕ) (s : List ℕ) (id : CounterId) (nonce : List ℕ) (long : length nonce ≡ nonceLen)
     (e : closesElsewhere (record { kind = kind; count = n }) s id nonce ≡ false) where

@@ -6,7 +6,7 @@ use native.Mathlib.Omega.{arith}
 use mathlib.Core.Bool.{Bool, true, false, cond, _&&_, false≢true}
 use mathlib.Core.List.{List, [], _∷_, _++_, append-assoc}
 use lib.ListN.{length, replicate, getD, take, drop, length-append, length-take, length-drop, List·getD-eq-default}
-use lib.Seq.{getD-drop, sets, sets-eq, paste, take-length, drop-cons, take-at, drop-at, length-take-le, drop-drop}
+use lib.Seq.{getD-drop, sets, sets-eq, paste, take-length, take-all, drop-cons, take-at, drop-at, length-take-le, drop-drop}
 use mathlib.Core.Logic.{_↔_}
 use lib.Dec.{leb, eqb}
 use borrow.Author.Tests.{le-leb, lt-leb, eqb-true, eq-eqb, leb-true}
@@ -27,6 +27,10 @@ window-part s k (suc n) h =
     let below : k < length s = omega arith in
     let rest : suc k + n ≤ length s = omega arith in
     ap (λ (l : List ℕ). getD s k 0 ∷ l) (window-part s (suc k) n rest) ∙ sym (ap (λ (l : List ℕ). take (suc n) l) (drop-cons s k 0 below))
+
+-- the window over all of the bytes
+pub window-whole : (s : List ℕ) (n : ℕ) → length s ≡ n → window s 0 n ≡ s
+window-whole s n long = window-part s 0 n (omega arith) ∙ take-all n s (omega arith)
 
 -- a window that goes one byte further
 pub window-snoc : (s : List ℕ) (k n : ℕ) → window s k (suc n) ≡ window s k n ++ (getD s (k + n) 0 ∷ [])
