@@ -3,6 +3,8 @@
 use crate::bytes::byte_at;
 use crate::bytes::wide;
 ghost use mathlib.Core.Path.{_≡_};
+ghost use Prim.Native.Nat.{_+_, _≤_};
+ghost use lib.ListN.{length};
 ghost use Rattle.forms.specs.Bytes.{overwrite};
 ghost use Rattle.forms.specs.Number.{be16, be32, digits};
 
@@ -15,18 +17,25 @@ pub fn get_u16(s: &[u8], at: usize) -> u32
     wide(s[at]) * 256 + wide(byte_at(s, at + 1))
 }
 
+// The number at a place where it is there whole. Its bytes are read with no test between them, so that the compiler makes one load of them.
+pub(crate) fn u32_at(s: &[u8], at: usize) -> u32
+    requires { ⌜ at + 4 ≤ length (now s) ⌝ }
+    ensures { λ r. ⌜ r ≡ be32 (now (s .entry)) at ⌝ }
+{
+    ((wide(s[at]) * 256 + wide(s[at + 1])) * 256 + wide(s[at + 2])) * 256 + wide(s[at + 3])
+}
+
 pub fn get_u32(s: &[u8], at: usize) -> u32
     ensures { λ r. ⌜ r ≡ be32 (now (s .entry)) at ⌝ }
 {
+    if 4 <= s.len() && at <= s.len() - 4 {
+        return u32_at(s, at);
+    }
     if s.len() <= at {
         return 0;
     }
-    if s.len() - at < 4 {
-        return ((wide(s[at]) * 256 + wide(byte_at(s, at + 1))) * 256 + wide(byte_at(s, at + 2)))
-            * 256
-            + wide(byte_at(s, at + 3));
-    }
-    ((wide(s[at]) * 256 + wide(s[at + 1])) * 256 + wide(s[at + 2])) * 256 + wide(s[at + 3])
+    ((wide(s[at]) * 256 + wide(byte_at(s, at + 1))) * 256 + wide(byte_at(s, at + 2))) * 256
+        + wide(byte_at(s, at + 3))
 }
 
 // Stores the lower 16 bits of x.
