@@ -249,9 +249,22 @@ static void measure(const char *title, const struct question *q)
         median[k] = times[k][ROUNDS / 2];
         if (k > 0 && (best_plain == 0 || median[k] < best_plain))
             best_plain = median[k];
-        printf("  %-20s %7.0f ns a proof (median of %d rounds; best %.0f)\n", names[k], median[k], ROUNDS, times[k][0]);
+        printf("  %-20s %8.1f ns a proof (median of %d rounds; best %.1f)\n", names[k], median[k], ROUNDS, times[k][0]);
     }
     printf("  ratio: %.2f of C loop after loop, %.2f of the faster C\n", median[0] / median[1], median[0] / best_plain);
+}
+
+/* Proofs of few entries, where the comparison of the nonce is a large part of the work. */
+static void measure_short(struct question *q)
+{
+    for (uint32_t kind = 1; kind <= 2; kind++) {
+        for (uint32_t n = kind - 1; n <= 2; n++) {
+            char title[64];
+            snprintf(title, sizeof title, "kind %u, entries %u", (unsigned)kind, (unsigned)n);
+            build(q, kind, 7, 100, 100, n, 1, true);
+            measure(title, q);
+        }
+    }
 }
 
 int main(void)
@@ -267,5 +280,6 @@ int main(void)
     measure("1,024 entries, every second of another counter", &q);
     build(&q, 1, 7, 100, 100, VMC_PROOF_MAX_ENTRIES, 64, true);
     measure("1,024 entries, every 64th of the wanted counter", &q);
+    measure_short(&q);
     return 0;
 }

@@ -1,5 +1,5 @@
 #!/usr/bin/env python3
-# The expected output of the program desk_cases, from document 01 and Note 1 of document 02 alone: a byte writer and a desk of its own.
+# The expected output of the program desk_cases, from document 01 and Notes 1 and 3 of document 02 alone: a byte writer and a desk of its own.
 import sys
 
 MAX = 4294967295
@@ -296,6 +296,20 @@ NEAR = [0x04030201, 0x01020305, 0x01020404, 0x01030304, 0x02020304]
 case('ids that differ in one byte or in their order', (0, 107, 107, 0, 2), conf=(0x01020304, 100, 100), cert=107, box=0x01020304,
      log=[entry(101, 1, 0x01020304, 100)] + [entry(102 + i, 2 + i, b, 77) for i, b in enumerate(NEAR)] + [entry(107, 7, 0x01020304, 101)],
      no=[o(i) for i in range(2, 7)])
+
+# ---- document 02, Note 3: the nonce that the proof closes on, from 40 on in both kinds, differs from the wanted one in one bit of one byte, the
+# lowest of it in kind 1 and the highest in kind 2, or not at all
+def one_bit(b, i, bit):
+    near = bytearray(nonce(b, 4))
+    near[i % 4] ^= bit
+    return 40 + i // 4 * 4, int.from_bytes(near, 'big')
+
+case('the wanted nonce', (0, 100, 100, 0, 0), cert=100, log=[])
+for i in range(20):
+    case('10, byte %d of the nonce' % (i + 1), R(10), cert=100, log=[], word=one_bit(5, i, 1))
+case('kind 2, the wanted nonce', (0, 101, 101, 0, 1), kind=2, log=[entry(101, 3, 7, 100)])
+for i in range(20):
+    case('10, kind 2, byte %d of the nonce' % (i + 1), R(10), kind=2, log=[entry(101, 3, 7, 100)], word=one_bit(3, i, 128))
 
 # ---- the rows of 1,024 entries in vectors/note1.md and vectors/desk.md, and their neighbours
 OWN = [entry(100 + i, i % 256, 7, 99 + i) for i in range(1, 1025)]

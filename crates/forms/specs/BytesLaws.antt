@@ -3,7 +3,7 @@ use mathlib.Core.Path.{_≡_, refl, sym, ap, ap₂, _∙_, subst}
 use Prim.Native.Nat.{ℕ, zero, suc, _+_, _≤_, _<_}
 use native.Mathlib.Nat.{zero-add, add-zero, add-suc, suc-add, add-assoc}
 use native.Mathlib.Omega.{arith}
-use mathlib.Core.Bool.{Bool, true, false, cond, _&&_, false≢true}
+use mathlib.Core.Bool.{Bool, true, false, cond, _&&_, false≢true, and-assoc}
 use mathlib.Core.List.{List, [], _∷_, _++_, append-assoc}
 use lib.ListN.{length, replicate, getD, take, drop, length-append, length-take, length-drop, List·getD-eq-default}
 use lib.Seq.{getD-drop, sets, sets-eq, paste, take-length, take-all, drop-cons, take-at, drop-at, length-take-le, drop-drop}
@@ -141,10 +141,11 @@ same-equal (a ∷ s) (b ∷ t) e = go (eqb a b) refl e (same-equal s t)
 pub same-exactly : (s t : List ℕ) → (same s t ≡ true) ↔ (s ≡ t)
 same-exactly s t = (same-equal s t, λ e. ap (same s) (sym e) ∙ same-refl s)
 
--- lists that differ at a place are not the same
-pub same-differs : (s t : List ℕ) (i : ℕ) → (getD s i 0 ≡ getD t i 0 → ⊥) → same s t ≡ false
-same-differs s t i d = go (same s t) refl
-  where
-    go : (b : Bool) → same s t ≡ b → b ≡ false
-    go true e = absurd (d (ap (λ (l : List ℕ). getD l i 0) (same-equal s t e)))
-    go false e = refl
+-- lists whose first parts are as long compare part by part
+pub same-append : (a b c d : List ℕ) → length a ≡ length c → same (a ++ b) (c ++ d) ≡ (same a c && same b d)
+unfolding same
+same-append [] b [] d n = refl
+same-append [] b (y ∷ c) d n = absurd (omega (arith, n))
+same-append (x ∷ a) b [] d n = absurd (omega (arith, n))
+same-append (x ∷ a) b (y ∷ c) d n =
+    ap (λ (r : Bool). eqb x y && r) (same-append a b c d (omega (arith, n))) ∙ sym (and-assoc (eqb x y) (same a c) (same b d))

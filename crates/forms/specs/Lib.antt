@@ -18,3 +18,4 @@ pub mod Record
 pub mod Terms
 pub mod TermsLaws
 pub mod TestsLaws
+pub mod WordsLaws

@@ -10,6 +10,10 @@ largest = 4294967295
 abbrev pub nonceLen : ℕ
 nonceLen = 20
 
+-- the words of 32 bits that a nonce is compared by (document 02: Note 3)
+abbrev pub nonceWords : ℕ
+nonceWords = 5
+
 -- confirmation: counter id, value, clock reading (12)
 abbrev pub confirmationLen : ℕ
 confirmationLen = 4 + 4 + 4

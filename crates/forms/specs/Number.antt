@@ -1,7 +1,7 @@
--- Big-endian numbers at a place of some bytes, at any width: document 01, "Fields are big-endian"; and a number's bytes in the other order.
--- Assumes nothing.
+-- Big-endian numbers at a place of some bytes, at any width: document 01, "Fields are big-endian"; a number's bytes in the other order; and
+-- words in a row: document 02, Note 3. Assumes nothing.
 use Prim.Native.Nat.{ℕ, zero, suc, _+_, _*_, _/_, _%_, _^_}
-use mathlib.Core.List.{List, [], _∷_}
+use mathlib.Core.List.{List, [], _∷_, _++_}
 use lib.ListN.{getD}
 
 -- the number that the w bytes from place k on hold, the highest first; a byte that is not there counts as 0
@@ -30,3 +30,8 @@ be16 s k = bigEndian 2 s k
 
 abbrev pub be32 : List ℕ → ℕ → ℕ
 be32 s k = bigEndian 4 s k
+
+-- the first n words of 32 bits from place k on
+unfoldable pub words : ℕ → List ℕ → ℕ → List ℕ
+words zero s k = []
+words (suc n) s k = words n s k ++ (be32 s (k + 4 * n) ∷ [])

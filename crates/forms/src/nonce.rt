@@ -1,8 +1,13 @@
-// The anti-replay nonce: twenty bytes.
+// The anti-replay nonce: twenty bytes, compared as five words (document 02, Note 3).
 use crate::bytes::byte_at;
+use crate::number::u32_at;
 ghost use mathlib.Core.Path.{_≡_};
+ghost use Prim.Native.Nat.{_+_, _≤_};
+ghost use lib.Dec.{eqb};
+ghost use lib.ListN.{length};
 ghost use Rattle.forms.specs.Bytes.{window, same};
 ghost use Rattle.forms.specs.Limits.{nonceLen};
+ghost use Rattle.forms.specs.Number.{be32};
 
 pub const LEN: usize = 20;
 
@@ -24,18 +29,35 @@ pub fn nonce_at(s: &[u8], at: usize) -> Nonce
     nonce
 }
 
-// Whether the nonce at a place of a slice is the one given, byte for byte.
+// Whether two nonces have the same word at an offset.
+fn same_word(a: &[u8], b: &[u8], offset: usize) -> bool
+    requires { ⌜ (offset + 4 ≤ length (now a)) × (offset + 4 ≤ length (now b)) ⌝ }
+    ensures { λ r. ⌜ r ≡ eqb (be32 (now (a .entry)) offset) (be32 (now (b .entry)) offset) ⌝ }
+{
+    u32_at(a, offset) == u32_at(b, offset)
+}
+
+// Whether two nonces agree: five words of each are read and compared, with no test between them.
+fn words_agree(a: &[u8], b: &[u8]) -> bool
+    requires { ⌜ (length (now a) ≡ nonceLen) × (length (now b) ≡ nonceLen) ⌝ }
+    ensures { λ r. ⌜ r ≡ same (now (a .entry)) (now (b .entry)) ⌝ }
+{
+    same_word(a, b, 0)
+        & same_word(a, b, 4)
+        & same_word(a, b, 8)
+        & same_word(a, b, 12)
+        & same_word(a, b, 16)
+}
+
+// Whether the nonce at a place of a slice is the one given, byte for byte. Nothing is copied where both are there whole.
+//
+// Ruled out, among others: a comparison of the first four words, or of the low bytes of each; yes for a nonce that is too short to compare.
 pub fn agree(s: &[u8], at: usize, nonce: &[u8]) -> bool
     ensures { λ r. ⌜ r ≡ same (window (now (s .entry)) at nonceLen) (window (now (nonce .entry)) 0 nonceLen) ⌝ }
 {
-    let a = nonce_at(s, at);
-    let b = nonce_at(nonce, 0);
-    let mut i: usize = 0;
-    while i < LEN {
-        if a[i] != b[i] {
-            return false;
-        }
-        i += 1;
+    if LEN <= s.len() && at <= s.len() - LEN && LEN <= nonce.len() {
+        return words_agree(&s[at..at + LEN], &nonce[..LEN]);
     }
-    true
+    // Zeros stand for bytes that are not there. The slices are lent on as parts: as they are, they would have to stand in memory above too.
+    words_agree(&nonce_at(&s[..], at), &nonce_at(&nonce[..], 0))
 }

@@ -18,7 +18,7 @@ use validity::proof::Proof;
 use validity::proof::parse;
 use validity::proof::parse_number;
 
-fn put_verdict(text: &mut [u8], at: usize, verdict: bool) -> usize {
+pub(crate) fn put_verdict(text: &mut [u8], at: usize, verdict: bool) -> usize {
     if verdict {
         put_words(text, at, b" yes")
     } else {

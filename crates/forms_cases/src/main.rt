@@ -2,6 +2,7 @@
 // calculated from the document's tables and not by this program.
 mod damage;
 mod fields;
+mod nonces;
 mod refusal;
 mod roundtrip;
 mod sample;

@@ -2,6 +2,7 @@
 // printed before its answer stands in the last line above that begins with `>`: words, with `#` for each figure in order; figures that are left
 // over are not printed. Every other line is passed over: an empty one, and one behind `#`, which says what the lines below it try.
 use crate::damage;
+use crate::nonces;
 use crate::refusal;
 use crate::roundtrip;
 use crate::sweep;
@@ -38,6 +39,7 @@ fn put_case(
         b'r' => damage::case(text, at, figures, entries),
         b'b' => sweep::bytes(text, at, figures, entries),
         b'l' => sweep::lengths(text, at, figures, entries),
+        b'n' => nonces::case(text, at, figures, entries),
         _ => at,
     }
 }
