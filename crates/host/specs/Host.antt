@@ -148,8 +148,16 @@ unfoldable pub updated : List Record → CounterId → (Record → Record) → L
 updated [] id change = []
 updated (r ∷ rs) id change = cond (sameId (r .held .id) id) (change r ∷ rs) (r ∷ updated rs id change)
 
+-- the state with other records
+abbrev pub withRecords : State → List Record → State
+withRecords st rs = record { clock = st .clock; records = rs; log = st .log; written = st .written }
+
 abbrev pub updatedState : State → CounterId → (Record → Record) → State
-updatedState st id change = record { clock = st .clock; records = updated (st .records) id change; log = st .log; written = st .written }
+updatedState st id change = withRecords st (updated (st .records) id change)
+
+-- and with the log cut to their oldest reading: the entries up to it are no longer needed
+abbrev pub cutTo : State → List Record → State
+cutTo st rs = record { clock = st .clock; records = rs; log = drop (oldest (st .clock) rs - base st) (st .log); written = st .written }
 
 -- "start writes an image with a given clock, no boxes"
 abbrev pub started : GlobalClock → State
@@ -195,9 +203,7 @@ abbrev pub replaced : List Record → Confirmation → List Record
 replaced rs c = updated rs (c .id) (confirmedBy c)
 
 abbrev pub confirmedState : State → Confirmation → State
-confirmedState st c =
-    let rs : List Record = replaced (st .records) c in
-    record { clock = st .clock; records = rs; log = drop (oldest (st .clock) rs - base st) (st .log); written = st .written }
+confirmedState st c = cutTo st (replaced (st .records) c)
 
 -- ---- the proofs set out
 

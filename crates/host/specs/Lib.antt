@@ -1,5 +1,7 @@
 pub mod ConfirmLaws
 pub mod ConfirmStores
+pub mod CutLaws
+pub mod CutStores
 pub mod DisplayLaws
 pub mod DoneLaws
 pub mod EachRecordLaws

@@ -2,6 +2,7 @@
 pub mod answer;
 pub mod confirm;
 mod counter;
+mod cut;
 pub mod last;
 pub mod open;
 pub mod prove;
