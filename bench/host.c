@@ -2,8 +2,8 @@
  * The proved host beside two plain ones: first that all give the same figures and leave the same bytes in image and output, then how long
  * each takes.
  *
- * Exits with 1 where anything differs, or where a call or a number that the host has, or a read with openings, was never met, so that the
- * comparison would be hollow.
+ * Exits with 1 where anything differs, or where a call or a number that the host has, a read with openings, a number of close or one of the
+ * things that a close leads to was never met, so that the comparison would be hollow.
  */
 #define _POSIX_C_SOURCE 200809L
 #include "host_plain.h"
@@ -14,16 +14,18 @@
 #include <string.h>
 #include <time.h>
 
-enum { LISTS = 1500, ROUNDS = 300, CALLS = 20, IMPLEMENTATIONS = 3, FIRST_NUMBER = 14, NUMBERS = 27 };
+enum { LISTS = 1500, ROUNDS = 300, CALLS = 20, IMPLEMENTATIONS = 3 };
+/* The host's numbers, but for one that only lines of text get. */
+enum { FIRST_NUMBER = 14, LINE_NUMBER = 27, NUMBERS = 29 };
 /* Room to lend an image, an output or a nonce longer than it should be. */
 enum { SLACK = 64 };
-enum { MAX_COUNTERS = 64, RECORDS = 28, RECORD_LEN = 16, LOG = 1052, CLOCK = 4, COUNTERS = 8, ENTRIES = 16 };
-/* Where a record's figures stand. */
-enum { VALUE = 4, READING = 8, CURRENT = 12 };
+enum { MAX_COUNTERS = 64, RECORDS = 28, RECORD_LEN = 16, LOG = 1052, ENTRY_LEN = 32, CLOCK = 4, COUNTERS = 8, ENTRIES = 16 };
+/* Where the figures of a record and of an entry stand. */
+enum { VALUE = 4, READING = 8, CURRENT = 12, ENTRY_ID = 24 };
 
 static const char *const names[IMPLEMENTATIONS] = {"vmc_host_*", "C, linear search", "C, table of hints"};
 
-enum kind { START, OPEN, TICK, INCREMENT, READ, PROVE, LAST, CONFIRM, KINDS };
+enum kind { START, OPEN, TICK, INCREMENT, READ, PROVE, LAST, CONFIRM, CLOSE, KINDS };
 
 /* All that one call of the host is handed besides image and output. */
 struct call {
@@ -67,8 +69,10 @@ static vmc_host_read_figures ask_proved(struct buffers *b, const struct call *c)
         return no_openings(vmc_host_prove(b->image, c->image_len, c->nonce, c->nonce_len, c->id, b->out, c->out_len));
     case LAST:
         return no_openings(vmc_host_last(b->image, c->image_len, c->id, c->reading, b->out, c->out_len));
-    default:
+    case CONFIRM:
         return no_openings(vmc_host_confirm(b->image, c->image_len, c->id, c->value, c->reading, c->verdict));
+    default:
+        return no_openings(vmc_host_close(b->image, c->image_len, c->id, c->value, c->reading, c->verdict));
     }
 }
 
@@ -89,8 +93,10 @@ static vmc_host_read_figures ask_plain(enum plain_lookup lookup, struct buffers 
         return no_openings(plain_host_prove(lookup, b->image, c->image_len, c->nonce, c->nonce_len, c->id, b->out, c->out_len));
     case LAST:
         return no_openings(plain_host_last(lookup, b->image, c->image_len, c->id, c->reading, b->out, c->out_len));
-    default:
+    case CONFIRM:
         return no_openings(plain_host_confirm(lookup, b->image, c->image_len, c->id, c->value, c->reading, c->verdict));
+    default:
+        return no_openings(plain_host_close(lookup, b->image, c->image_len, c->id, c->value, c->reading, c->verdict));
     }
 }
 
@@ -100,7 +106,8 @@ static vmc_host_read_figures ask(int implementation, struct buffers *b, const st
 }
 
 /* xorshift64*, with a fixed seed: every run has the same cases. */
-static uint64_t seed = 0x9e3779b97f4a7c15u;
+#define SEED 0x9e3779b97f4a7c15u
+static uint64_t seed = SEED;
 
 static uint32_t below(uint32_t limit)
 {
@@ -128,18 +135,64 @@ static uint32_t value_at(const uint8_t *image, const uint8_t *record, uint32_t r
 {
     uint32_t value = be32(record + VALUE);
     for (uint32_t k = 0; k < be32(image + ENTRIES); k++) {
-        const uint8_t *entry = image + LOG + 32 * k;
-        if (be32(entry) > be32(record + READING) && be32(entry) <= reading && be32(entry + 24) == be32(record))
+        const uint8_t *entry = image + LOG + ENTRY_LEN * k;
+        if (be32(entry) > be32(record + READING) && be32(entry) <= reading && be32(entry + ENTRY_ID) == be32(record))
             value = be32(entry);
     }
     return value;
 }
 
-/* How a list's calls are chosen: out of how many counters, and how often an opening and a confirmation are among the calls. */
+/* The reading of the last entry that names a counter, 0 where none does. */
+static uint32_t last_named(const uint8_t *image, uint32_t id)
+{
+    uint32_t k = be32(image + ENTRIES);
+    while (k > 0 && be32(image + LOG + ENTRY_LEN * (k - 1) + ENTRY_ID) != id)
+        k--;
+    return k == 0 ? 0 : be32(image + LOG + ENTRY_LEN * (k - 1));
+}
+
+static bool holds(const uint8_t *image, uint32_t id)
+{
+    uint32_t i = 0, counters = be32(image + COUNTERS);
+    while (i < counters && be32(image + RECORDS + RECORD_LEN * i) != id)
+        i++;
+    return i < counters;
+}
+
+/* A counter that was closed and that the log still names, or 0 where a few looks at the log find none. */
+static uint32_t some_closed(const uint8_t *image)
+{
+    uint32_t entries = be32(image + ENTRIES);
+    for (int look = 0; look < 8 && entries != 0; look++) {
+        uint32_t id = be32(image + LOG + ENTRY_LEN * below(entries) + ENTRY_ID);
+        if (id != 0 && !holds(image, id))
+            return id;
+    }
+    return 0;
+}
+
+/* A reading to open a closed counter at again. */
+static uint32_t reopening(const uint8_t *image, uint32_t id)
+{
+    uint32_t clock = be32(image + CLOCK);
+    switch (below(4)) {
+    case 0:
+        return clock;
+    case 1: /* a little before the clock */
+        return clock - 1 - below(3);
+    case 2: /* that of its last entry, at which it may be opened, or the one before, at which it may not */
+        return last_named(image, id) - below(2);
+    default: /* any that the log goes back to */
+        return clock - below(be32(image + ENTRIES) + 1);
+    }
+}
+
+/* How a list's calls are chosen: out of how many counters, and how often an opening, a confirmation and a close are among the calls. */
 struct habit {
     uint32_t ids;
     uint32_t opens;
     uint32_t confirms;
+    uint32_t closes;
 };
 
 static enum kind any_kind(const struct habit *habit)
@@ -148,6 +201,8 @@ static enum kind any_kind(const struct habit *habit)
         return OPEN;
     if (below(100) < habit->confirms)
         return CONFIRM;
+    if (below(100) < habit->closes)
+        return CLOSE;
     static const enum kind others[] = {INCREMENT, INCREMENT, INCREMENT, INCREMENT, INCREMENT, INCREMENT, TICK, TICK, READ, PROVE, LAST};
     return others[below(sizeof others / sizeof others[0])];
 }
@@ -159,7 +214,11 @@ static void choose(struct call *c, const uint8_t *image, const struct habit *hab
     const uint8_t *record = image + RECORDS + RECORD_LEN * index;
     uint32_t held = be32(record + READING);
 
+    /* Now and then a close is asked for once more as it was. */
+    if (c->kind == CLOSE && below(4) == 0)
+        return;
     c->kind = any_kind(habit);
+    uint32_t closed = c->kind == OPEN ? some_closed(image) : 0;
     c->image_len = below(200) != 0 ? VMC_IMAGE_LEN : below(2) == 0 ? below(VMC_IMAGE_LEN) : VMC_IMAGE_LEN + below(SLACK);
     c->out_len = below(4) != 0 ? VMC_PROOF_MAX_LEN : below(VMC_PROOF_MAX_LEN + SLACK);
     c->nonce_len = below(50) != 0 ? VMC_NONCE_LEN : below(VMC_NONCE_LEN + SLACK);
@@ -170,11 +229,21 @@ static void choose(struct call *c, const uint8_t *image, const struct habit *hab
     case OPEN:
         c->id = below(50) != 0 ? 1 + below(habit->ids) : 0;
         c->reading = near(entries == 0 || entries > clock ? clock : clock - below(entries + 1));
+        if (closed != 0 && below(2) == 0) {
+            c->id = closed;
+            c->reading = near(reopening(image, closed));
+        }
         c->value = near(c->reading);
         break;
     case CONFIRM:
         c->reading = near(held >= clock ? clock : held + below(clock - held + 1));
         c->value = near(value_at(image, record, c->reading));
+        break;
+    case CLOSE: /* mostly at the clock with the current value, else by the held confirmation, whole or in part */
+        c->reading = near(below(8) != 0 ? clock : held);
+        c->value = near(value_at(image, record, below(8) != 0 ? clock : held));
+        if (below(16) == 0) /* no list opens these */
+            c->id = habit->ids + 1 + below(habit->ids);
         break;
     case LAST:
         c->reading = near(value_at(image, record, entries == 0 ? clock : clock - below(entries)));
@@ -191,7 +260,26 @@ struct tally {
     unsigned long calls, differing, with_openings;
     unsigned long met[NUMBERS];
     unsigned long done[KINDS];
+    /* Of close by itself, since others give its numbers too. */
+    unsigned long closes[NUMBERS];
+    /* Closes that cut the log, that left entries of their counter in it, and that left no counter; counters opened that the log names. */
+    unsigned long cutting, leaving_entries, leaving_none, reopened;
 };
+
+static const int close_numbers[] = {0, 14, 15, 16, 17, 21, 22};
+
+/* Counts a call that was done, by the image after it and the count of entries before. */
+static void count_done(struct tally *tally, const uint8_t *image, const struct call *c, uint32_t entries)
+{
+    tally->done[c->kind]++;
+    if (c->kind == CLOSE) {
+        tally->cutting += be32(image + ENTRIES) < entries;
+        tally->leaving_entries += last_named(image, c->id) != 0;
+        tally->leaving_none += be32(image + COUNTERS) == 0;
+    }
+    if (c->kind == OPEN)
+        tally->reopened += last_named(image, c->id) != 0;
+}
 
 static bool same(vmc_host_read_figures a, vmc_host_read_figures b)
 {
@@ -202,12 +290,15 @@ static bool same(vmc_host_read_figures a, vmc_host_read_figures b)
 static void compare_call(struct tally *tally, struct buffers *buffers, const struct call *c)
 {
     vmc_host_read_figures figures[IMPLEMENTATIONS];
+    uint32_t entries = be32(buffers[0].image + ENTRIES);
     for (int k = 0; k < IMPLEMENTATIONS; k++)
         figures[k] = ask(k, &buffers[k], c);
+    uint32_t number = figures[0].number < NUMBERS ? figures[0].number : 0;
     tally->calls++;
-    tally->met[figures[0].number < NUMBERS ? figures[0].number : 0]++;
+    tally->met[number]++;
+    tally->closes[number] += c->kind == CLOSE;
     if (figures[0].number == 0)
-        tally->done[c->kind]++;
+        count_done(tally, buffers[0].image, c, entries);
     if (figures[0].openings > 0)
         tally->with_openings++;
     for (int k = 1; k < IMPLEMENTATIONS; k++) {
@@ -234,10 +325,11 @@ static uint8_t *some_record(uint8_t *image)
 /* One random change of a sound image; any may leave it sound. */
 static void damage(uint8_t *image)
 {
-    uint32_t used = LOG + 32 * be32(image + ENTRIES);
+    uint32_t entries = be32(image + ENTRIES), used = LOG + ENTRY_LEN * entries;
+    uint8_t *entry = image + LOG + ENTRY_LEN * (entries == 0 ? 0 : below(entries));
     const uint8_t *from;
 
-    switch (below(7)) {
+    switch (below(9)) {
     case 0:
         image[below(28)] = (uint8_t)below(256);
         break;
@@ -257,6 +349,12 @@ static void damage(uint8_t *image)
         from = some_record(image) + (below(2) == 0 ? CURRENT : VALUE);
         memmove(some_record(image) + CURRENT, from, 4);
         break;
+    case 6: /* an entry names another counter, which may be held or not, or none */
+        entry[ENTRY_ID + 3] = (uint8_t)below(128);
+        break;
+    case 7: /* an entry names none and states no value */
+        memset(entry + ENTRY_ID, 0, 8);
+        break;
     default:
         image[below(VMC_IMAGE_LEN)] ^= (uint8_t)(1 + below(255));
     }
@@ -268,7 +366,7 @@ static void compare_list(struct tally *tally, struct buffers *buffers)
     static uint8_t kept[sizeof buffers[0].image];
     static const uint32_t lengths[] = {20, 60, 200, 200, 3000};
     uint32_t length = lengths[below(32) == 0 ? 4 : below(4)];
-    struct habit habit = {.ids = 1 + below(100), .opens = 1 + below(30), .confirms = below(3) * below(3)};
+    struct habit habit = {.ids = 1 + below(100), .opens = 1 + below(30), .confirms = below(3) * below(3), .closes = below(3) * below(4)};
     struct call c = {.kind = START, .image_len = VMC_IMAGE_LEN};
 
     c.reading = below(8) == 0 ? UINT32_MAX - below(length) : below(UINT32_MAX);
@@ -287,7 +385,8 @@ static void compare_list(struct tally *tally, struct buffers *buffers)
     }
 }
 
-/* Whether all implementations agree on all calls, every number was met, so were openings, and every call was done at least once. */
+/* Whether all implementations agree on all calls, every number was met, so were openings, every call was done at least once, and all that
+ * is counted of close was met. */
 static bool compare(struct buffers *buffers)
 {
     struct tally tally = {0};
@@ -299,6 +398,8 @@ static bool compare(struct buffers *buffers)
     printf("%lu calls in %d lists compared, %lu differences. Calls by number: 0:%lu", tally.calls, LISTS, tally.differing, tally.met[0]);
     bool all_met = true;
     for (int number = FIRST_NUMBER; number < NUMBERS; number++) {
+        if (number == LINE_NUMBER)
+            continue;
         printf(" %d:%lu", number, tally.met[number]);
         all_met = all_met && tally.met[number] > 0;
     }
@@ -306,8 +407,16 @@ static bool compare(struct buffers *buffers)
         all_met = all_met && tally.done[kind] > 0;
     printf("; with openings: %lu\n", tally.with_openings);
     all_met = all_met && tally.with_openings > 0;
+    printf("Closes by number:");
+    for (size_t i = 0; i < sizeof close_numbers / sizeof close_numbers[0]; i++) {
+        printf(" %d:%lu", close_numbers[i], tally.closes[close_numbers[i]]);
+        all_met = all_met && tally.closes[close_numbers[i]] > 0;
+    }
+    printf("; %lu cut the log, %lu left entries of their counter, %lu left no counter. Opened though the log names it: %lu\n",
+           tally.cutting, tally.leaving_entries, tally.leaving_none, tally.reopened);
+    all_met = all_met && tally.cutting > 0 && tally.leaving_entries > 0 && tally.leaving_none > 0 && tally.reopened > 0;
     if (!all_met)
-        printf("error: a number was never met, openings never were, or a call was never done\n");
+        printf("error: a number, openings or something that a close leads to was never met, or a call was never done\n");
     return tally.differing == 0 && all_met;
 }
 
@@ -326,11 +435,13 @@ static int by_size(const void *a, const void *b)
     return (x > y) - (x < y);
 }
 
-/* A full table of counters and a log of some entries, the counters' in turn. */
-static void fill(struct buffers *b, uint32_t entries)
+/* A full table of counters and a log of some entries: the counters' in turn where kind is INCREMENT, of none where it is TICK. */
+static void fill(struct buffers *b, uint32_t entries, enum kind kind)
 {
     struct call c = {.kind = START, .image_len = VMC_IMAGE_LEN, .reading = 1000000, .nonce_len = VMC_NONCE_LEN, .verdict = 1};
 
+    /* The same counters in every image that is timed, whatever was drawn before: how many of them share a hint decides much. */
+    seed = SEED;
     ask(0, b, &c);
     for (uint32_t i = 0; i < MAX_COUNTERS; i++) {
         c.kind = OPEN;
@@ -340,9 +451,42 @@ static void fill(struct buffers *b, uint32_t entries)
     }
     for (uint32_t i = 0; i < entries; i++) {
         const uint8_t *record = b->image + RECORDS + RECORD_LEN * (i % MAX_COUNTERS);
-        c.kind = INCREMENT;
+        c.kind = kind;
         c.id = be32(record);
         c.value = value_at(b->image, record, be32(b->image + CLOCK));
+        ask(0, b, &c);
+    }
+}
+
+/* A confirmation of the record's counter at a reading, for confirm or close. */
+static void confirm_at(struct call *c, enum kind kind, const uint8_t *image, const uint8_t *record, uint32_t reading)
+{
+    c->kind = kind;
+    c->id = be32(record);
+    c->reading = reading;
+    c->value = value_at(image, record, reading);
+}
+
+/* Has all counters but that of one record confirmed at a reading, so that this one alone holds the entries up to there back. */
+static void confirm_others(struct buffers *b, const uint8_t *record, uint32_t reading)
+{
+    struct call c = {.image_len = VMC_IMAGE_LEN, .verdict = 1};
+
+    for (uint32_t i = 0; i < MAX_COUNTERS; i++) {
+        const uint8_t *other = b->image + RECORDS + RECORD_LEN * i;
+        confirm_at(&c, CONFIRM, b->image, other, reading);
+        if (other != record)
+            ask(0, b, &c);
+    }
+}
+
+/* Closes every second counter. The others still need all entries, half of which are now of no counter that is held. */
+static void close_half(struct buffers *b)
+{
+    struct call c = {.image_len = VMC_IMAGE_LEN, .verdict = 1};
+
+    for (uint32_t i = 0; i < MAX_COUNTERS / 2; i++) {
+        confirm_at(&c, CLOSE, b->image, b->image + RECORDS + RECORD_LEN * i, be32(b->image + CLOCK));
         ask(0, b, &c);
     }
 }
@@ -390,20 +534,37 @@ int main(void)
 
     if (!compare(buffers))
         return 1;
-    printf("Times with warm buffers: the same call is made again and again, on an image of 64 counters that each have every 64th entry.\n");
+    printf("Times with warm buffers: the same call is made again and again, on an image for which 64 counters were opened. Entries that "
+           "are no ticks are the counters' in turn.\n");
     struct call c = {.image_len = VMC_IMAGE_LEN, .out_len = VMC_PROOF_MAX_LEN, .nonce_len = VMC_NONCE_LEN, .verdict = 1};
     const uint8_t *record = buffers[0].image + RECORDS + RECORD_LEN * (MAX_COUNTERS / 2);
 
-    fill(&buffers[0], VMC_PROOF_MAX_ENTRIES - 1);
+    fill(&buffers[0], VMC_PROOF_MAX_ENTRIES - 1, INCREMENT);
     c.kind = INCREMENT;
     c.id = be32(record);
     c.value = value_at(buffers[0].image, record, be32(buffers[0].image + CLOCK));
     measure("increment at 1,023 entries", &buffers[0], &c);
-    fill(&buffers[0], VMC_PROOF_MAX_ENTRIES);
+    fill(&buffers[0], VMC_PROOF_MAX_ENTRIES, INCREMENT);
     c.id = be32(record);
     c.kind = PROVE;
     measure("prove of 1,024 entries", &buffers[0], &c);
     c.kind = READ;
     measure("read at 1,024 entries", &buffers[0], &c);
+    uint32_t clock = be32(buffers[0].image + CLOCK);
+    confirm_at(&c, CLOSE, buffers[0].image, record, clock);
+    measure("close at 1,024 entries, all needed by others", &buffers[0], &c);
+    confirm_others(&buffers[0], record, clock - VMC_PROOF_MAX_ENTRIES / 2);
+    measure("close at 1,024 entries, half of them needed by others", &buffers[0], &c);
+    fill(&buffers[0], VMC_PROOF_MAX_ENTRIES, INCREMENT);
+    close_half(&buffers[0]);
+    c.kind = READ;
+    c.id = be32(buffers[0].image + RECORDS);
+    measure("read at 1,024 entries, half of them of closed counters", &buffers[0], &c);
+    fill(&buffers[0], VMC_PROOF_MAX_ENTRIES - 2, TICK);
+    clock = be32(buffers[0].image + CLOCK);
+    confirm_at(&c, CONFIRM, buffers[0].image, record, clock);
+    measure("confirm at 1,022 ticks", &buffers[0], &c);
+    c.kind = CLOSE;
+    measure("close at 1,022 ticks", &buffers[0], &c);
     return 0;
 }

@@ -1,4 +1,4 @@
-/* The host of document 01, with Notes 1 and 2 of document 02, in plain C, to compare and to time the proved one against: answers and
+/* The host of document 01, with Notes 1, 2 and 4 of document 02, in plain C, to compare and to time the proved one against: answers and
  * parameters are those of vmc_host_* in include/vmc.h, with `lookup` before them in every call but start. */
 #ifndef HOST_PLAIN_H
 #define HOST_PLAIN_H
@@ -33,5 +33,8 @@ vmc_host_figures plain_host_last(enum plain_lookup lookup, uint8_t *image, size_
 
 vmc_host_figures plain_host_confirm(enum plain_lookup lookup, uint8_t *image, size_t image_len, uint32_t id, uint32_t value,
                                     uint32_t reading, uint32_t verdict);
+
+vmc_host_figures plain_host_close(enum plain_lookup lookup, uint8_t *image, size_t image_len, uint32_t id, uint32_t value, uint32_t reading,
+                                  uint32_t verdict);
 
 #endif

@@ -1,8 +1,9 @@
 /*
  * A server's day: the host keeps an image and sets out proofs, the desk judges them. The first twelve calls are document 01's example of the
  * program, and each prints a line as it does there: number and value, of the desk where a proof was written. Behind read's stand its
- * openings. Then one more raise, shown by its own increment, and what the dock's display shows at the end: every counter with its current
- * value, found in the image without a call.
+ * openings. Then one more raise, shown by its own increment, and what the dock's display shows: every counter with its current value, found
+ * in the image without a call. At the end box 7 is retired: its counter is closed, and what stays is counter 9, with a log that still names
+ * counter 7.
  */
 #include "vmc.h"
 
@@ -97,6 +98,13 @@ int main(void)
 
     answer(increment(8, 7, 103));
     show(vmc_host_last(image, sizeof image, 7, 104, proof, sizeof proof), 7, nonce(8));
+    display();
+
+    answer_read(vmc_host_read(image, sizeof image, 7));
+    answer(vmc_host_close(image, sizeof image, 7, 104, 104, 1)); /* its current value, at the clock */
+    answer_read(vmc_host_read(image, sizeof image, 7));          /* not held any more */
+    answer(vmc_host_open(image, sizeof image, 7, 103, 103, 1));  /* the log still has its entry at 104, which counter 9 needs */
+    show(prove(9, 9), 9, nonce(9));
     display();
 
     return fflush(stdout) == 0 ? 0 : 1;

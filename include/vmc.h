@@ -1,7 +1,7 @@
 /*
  * The desk and the host for C and C++: document 01's "The desk", which verifies a validity proof of a counter, and "The host", which keeps
- * the server's log image and sets such proofs out; the openings are those of Note 1 of document 02, the image's form that of Note 2. (The
- * documents call a counter a box.)
+ * the server's log image and sets such proofs out; the openings are those of Note 1 of document 02, the image's form that of Note 2, close
+ * that of Note 4. (The documents call a counter a box.)
  *
  * To link, on x86-64 Linux, from the top of the repository:
  *
@@ -91,8 +91,9 @@ vmc_desk_figures vmc_desk_verify(const uint8_t *proof, size_t proof_len,
  *
  * At VMC_IMAGE_COUNTERS stands how many counters are held. Each has a record, in order of opening, the first at VMC_IMAGE_RECORDS and the next
  * one VMC_RECORD_LEN behind it. A record begins with the counter's number, and at VMC_RECORD_CURRENT in it, its last four bytes, stands the
- * counter's current value: in a sound image what vmc_host_read gives for that number. Every image that the calls below leave is sound; whether
- * another one is, read itself says: it answers 14 where it is not.
+ * counter's current value: in a sound image what vmc_host_read gives for that number. A record is known by its number and not by its place:
+ * where a counter is closed, the records behind it move up. Every image that the calls below leave is sound; whether another one is, read
+ * itself says: it answers 14 where it is not.
  */
 #define VMC_IMAGE_COUNTERS 8u
 #define VMC_IMAGE_RECORDS 28u
@@ -105,19 +106,22 @@ vmc_desk_figures vmc_desk_verify(const uint8_t *proof, size_t proof_len,
  * number: 0 where the call is done, else the first of these, in this order, that refuses it.
  *
  *     14  the image is not sound; start: it has another length than VMC_IMAGE_LEN
- *     15  open, increment, confirm: the owner's verdict is not 1
+ *     15  open, increment, confirm, close: the owner's verdict is not 1
  *     16  the counter is 0, the nonce is not 20 bytes long, or a confirmation's value is above its reading
  *     17  the counter is not held (all calls but open that name one)
  *     18  open: the counter is held already
  *     19  open: there are 64 counters already
  *     20  open: the reading is before the log; confirm: it is before the held one
  *     21  open: the reading is past the clock, or the value is another than the reading; confirm: the reading is past the clock, or the
- *         value is not the counter's at that reading
- *     22  increment: the value before is not the counter's current one
+ *         value is not the counter's at that reading; close: the reading is not the clock's
+ *     22  increment: the value before is not the counter's current one; close: the value is not
  *     23  last: the counter has no entry with reading t behind its held one
  *     24  tick, increment: there are 1,024 entries already
  *     25  tick, increment: the clock is at its end, 4,294,967,295
  *     26  prove, last: the output is too short for the proof; VMC_PROOF_MAX_LEN bytes are always enough
+ *     28  open: the log has an entry with a later reading that names the counter, as it may have of one that was closed
+ *
+ * 27 is the program's, for a line that it does not know, and no call's.
  *
  * value: what the call gives where it is done, else 0. On a refusal image and output are as they were.
  */
@@ -150,7 +154,10 @@ typedef struct vmc_host_read_figures {
 /* Writes an image with a clock and no counters over whatever the buffer held. Gives the clock. */
 vmc_host_figures vmc_host_start(uint8_t *image, size_t image_len, uint32_t clock);
 
-/* Takes up a counter by its owner's confirmation, whose value is its current one. Gives how many counters are held. */
+/* Takes up a counter by its owner's confirmation, whose value is its current one. Gives how many counters are held.
+ *
+ * A counter that was closed may be taken up again, but by 28 not at a reading before an entry that the log still has of it. What the desk shows
+ * of a counter is known to be right only where its number is opened once: the host does not see to that, so a new box gets a new number. */
 vmc_host_figures vmc_host_open(uint8_t *image, size_t image_len, uint32_t id, uint32_t value, uint32_t reading, uint32_t verdict);
 
 /* The clock's next reading, without a request. Gives the reading. */
@@ -174,6 +181,12 @@ vmc_host_figures vmc_host_last(uint8_t *image, size_t image_len, uint32_t id, ui
 /* Replaces a counter's confirmation by a later one and drops the entries that no counter needs. The current value stays. Gives how many entries
  * are left. */
 vmc_host_figures vmc_host_confirm(uint8_t *image, size_t image_len, uint32_t id, uint32_t value, uint32_t reading, uint32_t verdict);
+
+/* Gives a counter up by its owner's confirmation of its current value at the clock: its record goes, the later ones move up, and the entries
+ * that no counter left needs are dropped. Its own entries stay where another counter needs them. Gives how many counters are left.
+ *
+ * Refuses by 14 to 17, 21 and 22, and then leaves the image as it was. */
+vmc_host_figures vmc_host_close(uint8_t *image, size_t image_len, uint32_t id, uint32_t value, uint32_t reading, uint32_t verdict);
 
 #ifdef __cplusplus
 }

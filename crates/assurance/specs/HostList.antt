@@ -1,5 +1,5 @@
--- The host's half of demand 3, as a statement: document 01, "The two lists of demand 3". Definitions alone; the proof stands in files of
--- its own. Assumes nothing.
+-- The host's half of demand 3, as a statement: document 01, "The two lists of demand 3", with document 02's close among the calls.
+-- Definitions alone; the proof stands in files of its own. Assumes nothing.
 use Prim.Native.Nat.{ℕ, _^_, _<_}
 use mathlib.Core.Path.{_≡_}
 use mathlib.Core.List.{List, [], _∷_}
@@ -16,7 +16,7 @@ use Rattle.validity.specs.Proof.{Fields, encode}
 use Rattle.log_image.specs.State.{decode}
 use Rattle.desk.specs.Answer.{figures}
 use Rattle.desk.specs.Desk.{allYes, verified}
-use Rattle.host.specs.Host.{requestNonce, Settled, startCall, openCall, tickCall, incrementCall, readCall, proveCall, lastCall, confirmCall, proofOf, lastEntries, lastOf, proveOutput, lastOutput}
+use Rattle.host.specs.Host.{requestNonce, Settled, startCall, openCall, tickCall, incrementCall, readCall, proveCall, lastCall, confirmCall, closeCall, proofOf, lastEntries, lastOf, proveOutput, lastOutput}
 
 -- ---- the list
 
@@ -30,6 +30,7 @@ pub data HostCall : Type 0 where
   prove : List ℕ → CounterId → List ℕ → HostCall
   last : CounterId → GlobalClock → List ℕ → HostCall
   confirm : Confirmation → ℕ → HostCall
+  close : Confirmation → ℕ → HostCall
 
 -- what a call answers and the image after it, by the definitions that the host's contracts cite
 abbrev pub settledBy : List ℕ → HostCall → Settled
@@ -41,6 +42,7 @@ settledBy s (read id) = record { figures = record { number = readCall s id .numb
 settledBy s (prove nonce id output) = proveCall s nonce id (length output)
 settledBy s (last id t output) = lastCall s id t (length output)
 settledBy s (confirm c verdict) = confirmCall s c verdict
+settledBy s (close c verdict) = closeCall s c verdict
 
 -- the widths of what a call is handed, which the code's types give: numbers of 32 bits, nonces of bytes
 abbrev pub Widths : HostCall → Type 0
@@ -52,6 +54,7 @@ Widths (read id) = id .0 < 2 ^ 32
 Widths (prove nonce id output) = Bytes nonce × (id .0 < 2 ^ 32)
 Widths (last id t output) = id .0 < 2 ^ 32
 Widths (confirm c verdict) = ConfirmationFits c
+Widths (close c verdict) = ConfirmationFits c
 
 -- ---- what is claimed of a call
 
@@ -87,6 +90,7 @@ Fair s (tick nonce) = Unit
 Fair s (increment nonce id before verdict) = Unit
 Fair s (read id) = Unit
 Fair s (confirm c verdict) = Unit
+Fair s (close c verdict) = Unit
 
 -- "Each call gets the image as the last one left it": along the list every call is fair, and none finds the image unsound
 unfoldable pub Runs : List ℕ → List HostCall → Type 0

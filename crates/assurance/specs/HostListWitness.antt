@@ -38,7 +38,7 @@ use Rattle.assurance.specs.HostProof.{host-claim}
 -- ---- the list
 
 -- "A byte b stands for a nonce of 20 bytes b"
-abbrev nonceOf : ℕ → List ℕ
+abbrev pub nonceOf : ℕ → List ℕ
 nonceOf b = replicate {A = ℕ} nonceLen b
 
 repeated-byte : (n b k : ℕ) → b < 256 → getD (replicate n b) k 0 < 256
@@ -46,7 +46,7 @@ repeated-byte zero b k small = lit< tt
 repeated-byte (suc n) b zero small = small
 repeated-byte (suc n) b (suc k) small = repeated-byte n b k small
 
-nonce-bytes : (b : ℕ) → b < 256 → Bytes (nonceOf b)
+pub nonce-bytes : (b : ℕ) → b < 256 → Bytes (nonceOf b)
 unfolding Bytes
 nonce-bytes b small = λ k. repeated-byte nonceLen b k small
 
@@ -62,10 +62,10 @@ abbrev room : List ℕ
 room = replicate {A = ℕ} 92 0
 
 -- the buffer that start is handed
-blank : List ℕ
+pub blank : List ℕ
 blank = replicate {A = ℕ} imageLen 0
 
-blank-long : length blank ≡ imageLen
+pub blank-long : length blank ≡ imageLen
 unfolding blank
 blank-long = length-replicate {A = ℕ} imageLen 0
 
@@ -97,7 +97,7 @@ shown = counted asked
 
 -- none of the calls is refused
 open-passes : openRefusal begun signed 1 ≡ 0
-unfolding holds
+unfolding holds oldest after ownEntries
 open-passes = refl
 
 raise-passes : incrementRefusal holding (nonceOf 1) seven 100 1 ≡ 0
@@ -169,9 +169,9 @@ works st fits is number value next none =
     ∙ settled-done (encode st) (number st) (value st) (next st) (encode-sound st fits is) none
 
 -- after start
-begun-image : startCall blank (globalClock 100) .image ≡ encode begun
+pub start-image : startCall blank (globalClock 100) .image ≡ encode begun
 unfolding startCall
-begun-image =
+start-image =
     ap (λ (b : Bool). cond {A = Settled} b
     (record { figures = record { number = 0; value = 100 }; image = encode begun })
     (record { figures = record { number = 14; value = 0 }; image = blank }) .image)
@@ -217,7 +217,7 @@ display-shows = (refl, display-reads (encode asked) 0 (encode-sound asked asked-
 -- ---- what the claim says along it
 
 from-start : Runs (encode begun) calls
-from-start = subst (λ (s : List ℕ). Runs s calls) begun-image (host-claim blank (globalClock 100) calls blank-long (lit< tt))
+from-start = subst (λ (s : List ℕ). Runs s calls) start-image (host-claim blank (globalClock 100) calls blank-long (lit< tt))
 
 from-open : Runs (encode holding) (raising ∷ proving ∷ lasting ∷ [])
 unfolding Runs

@@ -117,6 +117,7 @@ module _ (s : List ℕ) (kept : Kept s) where
   call-fair (HostCall.prove nonce id output) widths = prove-fair nonce id output (widths .1)
   call-fair (HostCall.last id t output) widths = last-fair id t output widths
   call-fair (HostCall.confirm c verdict) widths = tt
+  call-fair (HostCall.close c verdict) widths = tt
 
 -- ---- the list
 

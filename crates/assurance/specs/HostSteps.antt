@@ -24,14 +24,16 @@ use Rattle.log_image.specs.FitLaws.{start-fits, store-clock-fits, store-written
 use Rattle.log_image.specs.ImageRoundTrip.{StateFits, length-encode, encode-bytes, encode-sound, decode-fits, sound-decode, sound-laid-out}
 use Rattle.log_image.specs.Sound.{base, soundState, sound}
 use Rattle.log_image.specs.State.{State, decode, encode}
+use Rattle.host.specs.CloseLaws.{closed-sound}
+use Rattle.host.specs.CloseStores.{without-fits}
 use Rattle.host.specs.ConfirmLaws.{confirmed-sound}
 use Rattle.host.specs.ConfirmStores.{replacedState, replaced-fits}
 use Rattle.host.specs.EffectLaws.{clock-runs, entry-room, record-room}
-use Rattle.host.specs.Host.{Settled, openRefusal, tickRefusal, incrementRefusal, confirmRefusal, openRows, tickRows, incrementRows, readRows, proveRows, lastRows, confirmRows, started, opened, raised, incremented, noneHeld, advanced, ticked, counted, confirmedState, settled, startCall, readRefusal, currentOf, proofOf, lastOf, proveRefusal, lastRefusal, readCall}
+use Rattle.host.specs.Host.{Settled, openRefusal, tickRefusal, incrementRefusal, confirmRefusal, closeRefusal, openRows, tickRows, incrementRows, readRows, proveRows, lastRows, confirmRows, closeRows, started, opened, raised, incremented, noneHeld, advanced, ticked, counted, confirmedState, withRecords, without, closedState, settled, startCall, readRefusal, currentOf, proofOf, lastOf, proveRefusal, lastRefusal, readCall}
 use Rattle.host.specs.IncrementStores.{raised-fits, incremented-fits}
 use Rattle.host.specs.OpenLaws.{opened-sound}
 use Rattle.host.specs.RaiseLaws.{started-sound, counted-sound, incremented-sound, ticked-sound}
-use Rattle.host.specs.RefusalLaws.{open-passed, tick-passed, increment-passed}
+use Rattle.host.specs.RefusalLaws.{open-passed, tick-passed, increment-passed, close-passed}
 use Rattle.host.specs.SettledLaws.{settled-refused, settled-done}
 use Rattle.assurance.specs.HostList.{HostCall, settledBy, Widths}
 
@@ -44,10 +46,10 @@ pub record Kept (s : List ℕ) : Type 0 where
   pub long : length s ≡ imageLen
 
 -- a state whose image is such a one
-abbrev Steady : State → Type 0
+abbrev pub Steady : State → Type 0
 Steady st = (soundState st ≡ true) × StateFits st
 
-steady-kept : (st : State) → Steady st → Kept (encode st)
+pub steady-kept : (st : State) → Steady st → Kept (encode st)
 steady-kept st steady =
     record { bytes = encode-bytes st (steady .1); is-sound = encode-sound st (steady .1) (steady .0); long = length-encode st (steady .1) }
 
@@ -112,7 +114,7 @@ module _ (s : List ℕ) (kept : Kept s) where
   state-fits : StateFits (decode s)
   state-fits = kept-steady s kept .1
 
-  open-steady : (c : Confirmation) (verdict : ℕ) → ConfirmationFits c → openRefusal (decode s) c verdict ≡ 0 → Steady (opened (decode s) c)
+  pub open-steady : (c : Confirmation) (verdict : ℕ) → ConfirmationFits c → openRefusal (decode s) c verdict ≡ 0 → Steady (opened (decode s) c)
   open-steady c verdict fits none =
       let p = open-passed (decode s) c verdict none in
       (opened-sound (decode s) c verdict state-sound none, append-record-fits (decode s) state-fits (taken c) (record { held = fits; current = fits .value }) (record-room s (kept .bytes) (kept .is-sound) (p .room)))
@@ -130,7 +132,7 @@ module _ (s : List ℕ) (kept : Kept s) where
       go true = store-clock-fits (decode s) state-fits (globalClock (decode s .clock .0 + 1)) (omega (arith, running))
       go false = raised-fits (decode s) Carried.Tick nonce state-fits bytes (tick-passed (decode s) nonce none .long) tt running room
 
-  increment-steady : (nonce : List ℕ) (id : CounterId) (before verdict : ℕ) → Bytes nonce → id .0 < 2 ^ 32 → before < 2 ^ 32
+  pub increment-steady : (nonce : List ℕ) (id : CounterId) (before verdict : ℕ) → Bytes nonce → id .0 < 2 ^ 32 → before < 2 ^ 32
       → incrementRefusal (decode s) nonce id before verdict ≡ 0 → Steady (incremented (decode s) nonce id before)
   increment-steady nonce id before verdict bytes id-fits before-fits none =
       let p = increment-passed (decode s) nonce id before verdict none in (
@@ -141,7 +143,7 @@ module _ (s : List ℕ) (kept : Kept s) where
       )
 
   -- the count of proofs stops at the largest number of 32 bits
-  counted-steady : Steady (counted (decode s))
+  pub counted-steady : Steady (counted (decode s))
   counted-steady = (counted-sound (decode s) state-sound, store-written-fits (decode s) state-fits _ (omega arith))
 
   confirm-steady : (c : Confirmation) (verdict : ℕ) → ConfirmationFits c → confirmRefusal (decode s) c verdict ≡ 0 → Steady (confirmedState (decode s) c)
@@ -149,6 +151,12 @@ module _ (s : List ℕ) (kept : Kept s) where
       let st : State = decode s in
       let next : State = replacedState st c in
       (confirmed-sound st c verdict state-sound none, drop-entries-fits next (replaced-fits st c state-fits fits) (base next - base st))
+
+  pub close-steady : (c : Confirmation) (verdict : ℕ) → closeRefusal (decode s) c verdict ≡ 0 → Steady (closedState (decode s) (c .id))
+  close-steady c verdict none =
+      let st : State = decode s in
+      let next : State = withRecords st (without (st .records) (c .id)) in
+      (closed-sound st (c .id) state-sound, drop-entries-fits next (without-fits st (c .id) state-fits (close-passed st c verdict none .held)) (base next - base st))
 
   -- read answers as a call that stores
   read-other : (id : CounterId) → readCall s id .number ≡ 14 → ⊥
@@ -186,3 +194,7 @@ module _ (s : List ℕ) (kept : Kept s) where
       settled-steps s (confirmRefusal (decode s) c verdict) _ _ kept
       (rows-other (confirmRows (decode s) c verdict) refl)
       (confirm-steady c verdict widths)
+  call-steps (HostCall.close c verdict) widths =
+      settled-steps s (closeRefusal (decode s) c verdict) _ _ kept
+      (rows-other (closeRows (decode s) c verdict) refl)
+      (close-steady c verdict)

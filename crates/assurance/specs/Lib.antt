@@ -1,6 +1,7 @@
 pub mod AcceptLaws
 pub mod AcceptRows
 pub mod Accepted
+pub mod CloseWitness
 pub mod DeskExample
 pub mod DeskFreshness
 pub mod DeskList

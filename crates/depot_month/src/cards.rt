@@ -1,12 +1,16 @@
-// What the depot knows of each counter, on a card for each in the books: the reading of its opening, what its tablet holds, and a slip.
+// What the depot knows of each counter, on a card for each place in the books: the reading of its opening, what its tablet holds, a slip, the
+// value that it was closed with, and whether its box is the second one at the place.
 use crate::module;
 use crate::plan::COUNTERS;
+use crate::plan::id_of;
+use crate::plan::scrapped;
 use forms::number::get_u32;
 use forms::number::put_u32;
+use forms::terms::CounterId;
 use forms::terms::GlobalClock;
 ghost use Prim.Native.Nat.{_≤_};
 
-const CARD: usize = 24;
+const CARD: usize = 32;
 
 const FIRST: usize = module::END;
 
@@ -18,9 +22,13 @@ const TABLET: usize = 4;
 
 const SLIP: usize = 12;
 
+const CLOSED: usize = 24;
+
+const SECOND: usize = 28;
+
 // Where a counter's card begins: at most where the last one does.
 fn card(place: u32) -> usize
-    ensures { λ r. ⌜ r ≤ 263660 ⌝ }
+    ensures { λ r. ⌜ r ≤ 264164 ⌝ }
 {
     FIRST + CARD * ((place % COUNTERS) as usize)
 }
@@ -32,6 +40,30 @@ pub(crate) fn opened(books: &[u8], place: u32) -> GlobalClock {
 
 pub(crate) fn put_opened(books: &mut [u8], place: u32, reading: GlobalClock) {
     put_u32(books, card(place) + OPENED, reading.0);
+}
+
+// 0 where the counter is not closed.
+pub(crate) fn closed(books: &[u8], place: u32) -> u32 {
+    get_u32(books, card(place) + CLOSED)
+}
+
+pub(crate) fn put_closed(books: &mut [u8], place: u32, value: u32) {
+    put_u32(books, card(place) + CLOSED, value);
+}
+
+// Whether the place's first box was scrapped and another one came in its place.
+pub(crate) fn is_second(books: &[u8], place: u32) -> bool {
+    get_u32(books, card(place) + SECOND) != 0
+}
+
+// The id of the box that is at the place.
+pub(crate) fn id(books: &[u8], place: u32) -> CounterId {
+    id_of(place, is_second(books, place))
+}
+
+// Whether the box that is at the place is scrapped.
+pub(crate) fn is_scrapped(books: &[u8], place: u32, day: u32) -> bool {
+    scrapped(place, day) && !is_second(books, place)
 }
 
 // The value that a tablet took along, and the day on which it did.
@@ -87,4 +119,13 @@ impl Slip {
         put_u32(books, at + 4, self.reading.0);
         put_u32(books, at + 8, self.day);
     }
+}
+
+// The card begins anew for a second box. A slip that was signed for the first one says nothing of it, and goes.
+pub(crate) fn begin_second(books: &mut [u8], place: u32) {
+    put_opened(books, place, GlobalClock(0));
+    put_closed(books, place, 0);
+    put_u32(books, card(place) + SECOND, 1);
+    let none = Slip::none();
+    none.write(books, place);
 }

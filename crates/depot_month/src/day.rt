@@ -1,4 +1,5 @@
 // A day at the depot: the morning's round past all counters, then calls as they are drawn.
+use crate::cards;
 use crate::module;
 use crate::owner::hand_in;
 use crate::owner::handed_over;
@@ -12,6 +13,8 @@ use crate::plan::tablet_away;
 use crate::raise::dock_raises;
 use crate::raise::tablet_raises;
 use crate::raise::ticked;
+use crate::retire::retired;
+use crate::retire::settled;
 use crate::tally;
 use forms::terms::GlobalClock;
 
@@ -32,16 +35,25 @@ impl Step {
     }
 }
 
+// In the morning a scrapped box is closed or replaced, and any other confirmed.
+fn called_on(place: u32, day: u32, image: &mut [u8], books: &mut [u8]) {
+    if cards::is_scrapped(books, place, day) {
+        settled(place, day, image, books);
+    } else {
+        visited(place, day, image, books);
+    }
+}
+
 fn round(day: u32, image: &mut [u8], books: &mut [u8]) {
     let mut place: u32 = 0;
     while place < COUNTERS {
-        visited(place, day, image, books);
+        called_on(place, day, image, books);
         place += 1;
     }
 }
 
-// On the first days the next counter is opened, at a reading of just now; with 64 opened it is a sixty-fifth. Later a counter that is
-// opened already.
+// On the first days the next counter is opened, at a reading of just now; with 64 opened it is a sixty-fifth. Later one time in sixteen a counter
+// that is opened already; the other times are for the boxes that are scrapped, which are at the odd places.
 fn opening(step: Step, day: u32, image: &mut [u8], books: &mut [u8]) {
     let now = module::clock(books).0;
     let reading = GlobalClock(std::num::wrapping_sub_u32(now, step.rest % 3));
@@ -50,9 +62,12 @@ fn opening(step: Step, day: u32, image: &mut [u8], books: &mut [u8]) {
         opened(next, reading, day, image, books);
         return;
     }
-    if step.rest % 16 == 0 {
+    if step.rest % 16 == 0 && cards::closed(books, step.place) == 0 {
         opened(step.place, reading, day, image, books);
+        return;
     }
+    let place = 2 * (step.place % 32) + 1;
+    retired(place, step.rest / 16 % 4, day, image, books);
 }
 
 // A raise by a dock, or by the counter's tablet where that is not away.

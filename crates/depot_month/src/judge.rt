@@ -2,7 +2,6 @@
 use crate::cards;
 use crate::cards::Slip;
 use crate::module;
-use crate::plan::id_of;
 use crate::tally;
 use desk::answer::Figures;
 use desk::verdicts::verdict_count;
@@ -29,7 +28,8 @@ pub struct Wanted {
 fn openings_compared(proof: &[u8], place: u32, shown: Figures, books: &mut [u8]) {
     let confirmed = Confirmation::read(proof, Proof::CONFIRMATION).reading;
     let closing = GlobalClock(shown.closing);
-    let openings = module::openings_between(books, id_of(place), confirmed, closing);
+    let id = cards::id(books, place);
+    let openings = module::openings_between(books, id, confirmed, closing);
     tally::mix(books, openings);
     tally::add_if(books, tally::OPENINGS_DIFFER, shown.openings != openings);
 }
@@ -38,7 +38,8 @@ fn openings_compared(proof: &[u8], place: u32, shown: Figures, books: &mut [u8])
 fn compared(wanted: Wanted, value: u32, closing: GlobalClock, books: &mut [u8]) {
     let place = wanted.place;
     let opened = cards::opened(books, place);
-    let history_value = module::value_at(books, id_of(place), opened, closing);
+    let id = cards::id(books, place);
+    let history_value = module::value_at(books, id, opened, closing);
     tally::mix(books, history_value);
     tally::add(books, tally::ACCEPTED);
     tally::add_if(books, tally::CLOSING_DIFFERS, closing.0 != wanted.closing.0);
@@ -51,7 +52,8 @@ pub(crate) fn judged(proof: &[u8], kind: Kind, wanted: Wanted, day: u32, books: 
     let yes = [1u8; VERDICTS];
     let nonce = wanted.nonce;
     let verdicts = front(&yes, verdict_count(kind, proof.len()));
-    let shown = verify(proof, verdicts, id_of(wanted.place), &nonce).figures();
+    let id = cards::id(books, wanted.place);
+    let shown = verify(proof, verdicts, id, &nonce).figures();
     tally::mix(books, shown.number);
     tally::mix(books, shown.value);
     tally::mix(books, shown.closing);

@@ -1,7 +1,8 @@
 // A month at the depot: the host's calls in one long order, with the module's history run beside them. Sixty-four counters, tablets that
-// come back with old values, confirmations that come late, and a log that fills. Every proof that the host writes goes to the desk, and what
-// the desk shows is compared with the history. What is kept beside the image stands in one buffer, the books: the module's history, a card for each
-// counter, and a tally. The expected output is calculated from the document and not by this program.
+// come back with old values, confirmations that come late, a log that fills, and boxes that are scrapped and replaced. Every proof that
+// the host writes goes to the desk, and what the desk shows is compared with the history. What is kept beside the image stands in one
+// buffer, the books: the module's history, a card for each place, and a tally. The expected output is calculated from the documents and not
+// by this program.
 mod cards;
 mod day;
 mod judge;
@@ -11,6 +12,7 @@ mod plan;
 mod prove;
 mod raise;
 mod report;
+mod retire;
 mod tally;
 
 use forms::image::Image;

@@ -1,10 +1,10 @@
 // Proofs that the host is asked for, up to the clock and up to a raise, each of which goes to the desk.
+use crate::cards;
 use crate::cards::Slip;
 use crate::judge::Wanted;
 use crate::judge::judged;
 use crate::module;
 use crate::plan::FIRST_READING;
-use crate::plan::id_of;
 use crate::raise::current;
 use crate::tally;
 use forms::event::ModuleEvent;
@@ -25,7 +25,7 @@ fn prove_asked(
     out: &mut [u8],
     books: &mut [u8],
 ) -> Figures {
-    let figures = prove(image, &nonce, id_of(place), out);
+    let figures = prove(image, &nonce, cards::id(books, place), out);
     tally::answered(books, image, figures);
     tally::add_if(books, tally::PROVED, figures.number == 0);
     figures
@@ -40,7 +40,7 @@ fn last_asked(
     out: &mut [u8],
     books: &mut [u8],
 ) -> Figures {
-    let figures = last(image, id_of(place), t, out);
+    let figures = last(image, cards::id(books, place), t, out);
     let written = figures.number == 0;
     tally::answered(books, image, figures);
     tally::add_if(books, tally::PROVED_LAST, written);

@@ -2,7 +2,6 @@
 use crate::cards;
 use crate::cards::Tablet;
 use crate::module;
-use crate::plan::id_of;
 use crate::tally;
 use forms::event::Carried;
 use forms::event::ModuleEvent;
@@ -34,11 +33,12 @@ pub(crate) fn ticked(image: &mut [u8], books: &mut [u8]) {
 // A request for a counter with the value before that its requester holds, and the owner's verdict on it.
 fn requested(place: u32, before: u32, verdict: u32, image: &mut [u8], books: &mut [u8]) -> Figures {
     let nonce = tally::nonce(books);
-    let figures = increment(image, &nonce, id_of(place), before, verdict);
+    let id = cards::id(books, place);
+    let figures = increment(image, &nonce, id, before, verdict);
     tally::answered(books, image, figures);
     if figures.number == 0 {
         tally::add(books, tally::RAISES);
-        let carried = Carried::Request(id_of(place), before);
+        let carried = Carried::Request(id, before);
         let now = GlobalClock(figures.value);
         certify(books, carried, nonce, now);
     }
@@ -47,7 +47,7 @@ fn requested(place: u32, before: u32, verdict: u32, image: &mut [u8], books: &mu
 
 // The current value that the host gives, compared with the history's; 0 where it gives none.
 pub(crate) fn current(place: u32, image: &[u8], books: &mut [u8]) -> u32 {
-    let id = id_of(place);
+    let id = cards::id(books, place);
     let shown = read(image, id);
     let figures = Figures {
         number: shown.number,

@@ -39,6 +39,7 @@ fn counted(words: &[u8], books: &[u8], what: usize) {
     print(words, &[tally::count(books, what)]);
 }
 
+// By 14 to 26: 27 is the line program's own, and no answer of the host.
 fn refusals(books: &[u8]) {
     let mut number: usize = 14;
     while number < 27 {
@@ -58,12 +59,28 @@ fn image_sum(image: &[u8]) -> u32 {
     sum
 }
 
+fn openings(books: &[u8]) {
+    counted(b"openings:#\n", books, tally::OPENINGS);
+    counted(
+        b"of these of a box in the place of a scrapped one:#\n",
+        books,
+        tally::SECOND_BOXES,
+    );
+    counted(b"closings:#\n", books, tally::CLOSINGS);
+    counted(
+        b"of these after which entries fell away:#\n",
+        books,
+        tally::CLOSINGS_CUT,
+    );
+}
+
 fn calls(books: &[u8]) {
     counted(b"calls of the host:#\n", books, tally::CALLS);
-    counted(b"openings:#\n", books, tally::OPENINGS);
+    openings(books);
     counted(b"ticks:#\n", books, tally::TICKS);
     counted(b"raises:#\n", books, tally::RAISES);
     refusals(books);
+    counted(b"refused by 28:#\n", books, 28);
     counted(
         b"old values that tablets came with:#\n",
         books,

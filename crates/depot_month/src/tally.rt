@@ -59,6 +59,12 @@ pub(crate) const SUM: usize = 52;
 
 pub(crate) const OPENINGS_DIFFER: usize = 53;
 
+pub(crate) const SECOND_BOXES: usize = 54;
+
+pub(crate) const CLOSINGS: usize = 55;
+
+pub(crate) const CLOSINGS_CUT: usize = 56;
+
 pub(crate) fn count(books: &[u8], what: usize) -> u32 {
     get_u32(books, FIRST + 4 * (what % NUMBERS))
 }

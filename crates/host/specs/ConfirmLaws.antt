@@ -10,8 +10,7 @@ use Rattle.log_image.specs.Sound.{base, after, soundState}
 use Rattle.host.specs.Host.{recordOf, confirmedBy, replaced, confirmedState, confirmRefusal}
 use Rattle.host.specs.HeldLaws.{later-chains, later-end, current-stored}
 use Rattle.host.specs.CutLaws.{Recut, cut-parts}
-use Rattle.host.specs.LogEndsLaws.{named-wider}
-use Rattle.host.specs.EachRecordLaws.{each-updated, oldest-updated, holds-updated, distinct-updated, confirmation-keeps}
+use Rattle.host.specs.EachRecordLaws.{each-updated, oldest-updated, distinct-updated, confirmation-keeps}
 use Rattle.host.specs.RefusalLaws.{ConfirmPassed, confirm-passed}
 use Rattle.host.specs.SoundParts.{Chained, SoundState, sound-parts, sound-whole}
 
@@ -21,8 +20,6 @@ confirmed-records st c verdict s p =
       up = oldest-updated (st .clock) (st .records) (c .id) (confirmedBy c) (p .later);
       differ = distinct-updated (c .id) (confirmedBy c) (confirmation-keeps c) (st .records) ∙ s .differ;
       bounds = each-updated (c .id) (confirmedBy c) (s .differ) (s .bounds) (λ held. record { low = p .low; past = p .past }) (λ r other before. before);
-      names = named-wider (st .records) (replaced (st .records) c) (st .log) (λ id held. holds-updated (c .id) (confirmedBy c) (confirmation-keeps c) (st .records) id ∙ held)
-          (s .names);
       chain = each-updated (c .id) (confirmedBy c) (s .differ) (s .chain) (λ held. own) (λ r other before. before);
     }
   where

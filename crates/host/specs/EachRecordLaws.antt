@@ -1,5 +1,5 @@
 -- What holds of every record of a list, and the record of a held counter among them: that of a counter found, one
--- more behind, one changed. Assumes nothing.
+-- more behind, one changed, one taken out. Assumes nothing.
 use mathlib.Core.Path.{_≡_, refl, sym, ap, ap₂, subst, _∙_}
 use Prim.Native.Nat.{ℕ, suc, _≤_, min}
 use native.Mathlib.Omega.{arith}
@@ -17,7 +17,7 @@ use Rattle.forms.specs.TestsLaws.{neither}
 use Rattle.log_image.specs.State.{Record}
 use Rattle.log_image.specs.Sound.{holds, indexOf, distinct, oldest}
 use Rattle.log_image.specs.PassLaws.{distinct-parts, nonzero}
-use Rattle.host.specs.Host.{recordOf, updated, raisedTo, confirmedBy}
+use Rattle.host.specs.Host.{recordOf, updated, raisedTo, confirmedBy, without}
 
 -- something holds of every record of a list
 pub data Each (P : Record → Type 0) : List Record → Type 0 where
@@ -93,7 +93,7 @@ oldest-snoc clock (x ∷ rs) r past = omega (arith, oldest-snoc clock rs r past)
 -- ---- one more record
 
 -- its counter is held too
-pub holds-snoc : (rs : List Record) (r : Record) (id : CounterId) → holds (rs ++ (r ∷ [])) id ≡ (holds rs id || sameId (r .held .id) id)
+holds-snoc : (rs : List Record) (r : Record) (id : CounterId) → holds (rs ++ (r ∷ [])) id ≡ (holds rs id || sameId (r .held .id) id)
 unfolding holds
 holds-snoc [] r id = or-false (sameId (r .held .id) id)
 holds-snoc (x ∷ rs) r id = ap (λ (b : Bool). sameId (x .held .id) id || b) (holds-snoc rs r id) ∙ sym (or-assoc (sameId (x .held .id) id) (holds rs id) (sameId (r .held .id) id))
@@ -178,7 +178,7 @@ Keeps id change = (r : Record) → sameId (r .held .id) id ≡ true → change r
 
 module _ (id : CounterId) (change : Record → Record) (keeps : Keeps id change) where
   -- the same counters are held
-  pub holds-updated : (rs : List Record) (other : CounterId) → holds (updated rs id change) other ≡ holds rs other
+  holds-updated : (rs : List Record) (other : CounterId) → holds (updated rs id change) other ≡ holds rs other
   unfolding holds updated
   holds-updated [] other = refl
   holds-updated (r ∷ rs) other = go (sameId (r .held .id) id) refl (holds-updated rs other)
@@ -224,3 +224,51 @@ oldest-kept clock (r ∷ rs) id change same = go (sameId (r .held .id) id) (olde
 -- a raise is such a change
 pub raise-keeps : (reading : GlobalClock) → KeepsHeld (raisedTo reading)
 raise-keeps reading r = refl
+
+-- ---- a counter's record taken out
+
+-- what holds of every record holds of the others
+pub each-without : {P : Record → Type 0} {rs : List Record} (id : CounterId) → Each P rs → Each P (without rs id)
+unfolding without
+each-without id done = done
+each-without {P} id (more {r = r} {rs = rs} p ps) = go (sameId (r .held .id) id) (each-without id ps)
+  where
+    go : (b : Bool) → Each P (without rs id) → Each P (cond b rs (r ∷ without rs id))
+    go true rest = ps
+    go false rest = more p rest
+
+-- the oldest reading does not fall
+pub oldest-without : (clock : GlobalClock) (rs : List Record) (id : CounterId) → oldest clock rs ≤ oldest clock (without rs id)
+unfolding oldest without
+oldest-without clock [] id = omega arith
+oldest-without clock (r ∷ rs) id = go (sameId (r .held .id) id) (oldest-without clock rs id)
+  where
+    go : (b : Bool) → oldest clock rs ≤ oldest clock (without rs id) → min (r .held .reading .0) (oldest clock rs) ≤ oldest clock (cond b rs (r ∷ without rs id))
+    go true rest = omega arith
+    go false rest = omega arith
+
+-- no other counter is held than before
+holds-without : (rs : List Record) (id other : CounterId) → holds rs other ≡ false → holds (without rs id) other ≡ false
+unfolding holds without
+holds-without [] id other unheld = refl
+holds-without (r ∷ rs) id other unheld =
+    let apart = neither (sameId (r .held .id) other) (holds rs other) unheld in
+    go (sameId (r .held .id) id) (apart .0) (apart .1) (holds-without rs id other (apart .1))
+  where
+    go : (b : Bool) → sameId (r .held .id) other ≡ false → holds rs other ≡ false → holds (without rs id) other ≡ false
+        → holds (cond b rs (r ∷ without rs id)) other ≡ false
+    go true first others rest = others
+    go false first others rest = ap₂ _||_ first rest
+
+-- ids still differ
+pub distinct-without : (rs : List Record) (id : CounterId) → distinct rs ≡ true → distinct (without rs id) ≡ true
+unfolding distinct without
+distinct-without [] id differ = refl
+distinct-without (r ∷ rs) id differ = go (sameId (r .held .id) id) (distinct-parts r rs differ) (distinct-without rs id (distinct-parts r rs differ .1))
+  where
+    go : (b : Bool) → (holds rs (r .held .id) ≡ false) × (distinct rs ≡ true) → distinct (without rs id) ≡ true
+        → distinct (cond b rs (r ∷ without rs id)) ≡ true
+    go true parts rest = parts .1
+    go false parts rest =
+        ap₂ (λ (a b : Bool). not a && (not b && distinct (without rs id))) (ne-eqb (r .held .id .0) 0 (nonzero r rs differ)) (holds-without rs id (r .held .id) (parts .0))
+        ∙ rest

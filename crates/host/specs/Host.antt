@@ -1,11 +1,11 @@
--- The host's calls: document 01, "The host". Each is a row of refusals in the order of its numbers, a value and the state after it; on
--- refusal the image stays as it was. Assumes nothing.
+-- The host's calls: document 01, "The host", and document 02, Note 4, "close". Each is a row of refusals in the order of its numbers, a value
+-- and the state after it; on refusal the image stays as it was. Assumes nothing.
 use Prim.Native.Nat.{ℕ, _+_, _-_, min}
 use mathlib.Core.Bool.{Bool, false, not, cond, _&&_, _||_}
 use mathlib.Core.List.{List, [], _∷_, _++_}
 use lib.Dec.{eqb, ltb}
 use lib.ListN.{length, take, drop}
-use Rattle.forms.specs.Chain.{valueAfter}
+use Rattle.forms.specs.Chain.{valueAfter, ownEntries}
 use Rattle.forms.specs.declared.running.Running.{Running}
 use Rattle.forms.specs.Checks.{Row, _gives_, firstOf}
 use Rattle.forms.specs.Entry.{entryOf, logBytes}
@@ -50,6 +50,10 @@ abbrev pub valueAt : State → CounterId → GlobalClock → ℕ
 valueAt st id reading =
     valueAfter id (heldOf st id .value) (take (reading .0 - heldOf st id .reading .0) (entriesOf st id))
 
+-- "a held entry after the given reading names" the counter
+abbrev pub namedAfter : State → CounterId → GlobalClock → Bool
+namedAfter st id reading = not (eqb (ownEntries id (after (base st) reading (st .log))) 0)
+
 -- an entry of the counter with the reading t is among some entries
 unfoldable pub hasEntry : CounterId → GlobalClock → List Entry → Bool
 hasEntry id t [] = false
@@ -60,7 +64,7 @@ unfoldable pub requestNonce : CounterId → GlobalClock → List Entry → List 
 requestNonce id t [] = []
 requestNonce id t (e ∷ es) = cond (sameId (e .id) id && eqb (e .reading .0) (t .0)) (e .nonce) (requestNonce id t es)
 
--- ---- refusals, in number order; 0 where there is none
+-- ---- refusals, in number order; 0 where there is none. Of open's, document 02 puts 28 "after 21"
 
 abbrev pub badNonce : List ℕ → Bool
 badNonce nonce = not (eqb (length nonce) nonceLen)
@@ -73,6 +77,7 @@ openRows st c verdict =
     ∷ (eqb (length (st .records)) maxCounters gives 19)
     ∷ (ltb (c .reading .0) (st .clock .0 - length (st .log)) gives 20)
     ∷ ((ltb (st .clock .0) (c .reading .0) || not (eqb (c .value) (c .reading .0))) gives 21)
+    ∷ (namedAfter st (c .id) (c .reading) gives 28)
     ∷ []
 
 abbrev pub openRefusal : State → Confirmation → ℕ → ℕ
@@ -141,6 +146,19 @@ confirmRows st c verdict =
 abbrev pub confirmRefusal : State → Confirmation → ℕ → ℕ
 confirmRefusal st c verdict = firstOf (confirmRows st c verdict) 0
 
+-- "close refuses by 14 to 17, 21 (reading not the clock), then 22"
+abbrev pub closeRows : State → Confirmation → ℕ → List (Row ℕ)
+closeRows st c verdict =
+    (not (eqb verdict 1) gives 15)
+    ∷ ((eqb (c .id .0) 0 || ltb (c .reading .0) (c .value)) gives 16)
+    ∷ (not (holds (st .records) (c .id)) gives 17)
+    ∷ (not (eqb (c .reading .0) (st .clock .0)) gives 21)
+    ∷ (not (eqb (c .value) (currentOf st (c .id))) gives 22)
+    ∷ []
+
+abbrev pub closeRefusal : State → Confirmation → ℕ → ℕ
+closeRefusal st c verdict = firstOf (closeRows st c verdict) 0
+
 -- ---- effects
 
 -- the records with that of a counter changed
@@ -204,6 +222,15 @@ replaced rs c = updated rs (c .id) (confirmedBy c)
 
 abbrev pub confirmedState : State → Confirmation → State
 confirmedState st c = cutTo st (replaced (st .records) c)
+
+-- "The record goes, later ones move up"
+unfoldable pub without : List Record → CounterId → List Record
+without [] id = []
+without (r ∷ rs) id = cond (sameId (r .held .id) id) rs (r ∷ without rs id)
+
+-- "the log is cut to the oldest reading left"; where no record is left, to the clock, so that no entry stays
+abbrev pub closedState : State → CounterId → State
+closedState st id = cutTo st (without (st .records) id)
 
 -- ---- the proofs set out
 
@@ -286,6 +313,12 @@ abbrev pub confirmCall : List ℕ → Confirmation → ℕ → Settled
 confirmCall s c verdict =
     let st : State = decode s in
     settled s (confirmRefusal st c verdict) (length (confirmedState st c .log)) (confirmedState st c)
+
+-- "the answer is the boxes left"
+abbrev pub closeCall : List ℕ → Confirmation → ℕ → Settled
+closeCall s c verdict =
+    let st : State = decode s in
+    settled s (closeRefusal st c verdict) (length (closedState st (c .id) .records)) (closedState st (c .id))
 
 -- ---- the output of prove and last
 

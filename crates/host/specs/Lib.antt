@@ -1,3 +1,5 @@
+pub mod CloseLaws
+pub mod CloseStores
 pub mod ConfirmLaws
 pub mod ConfirmStores
 pub mod CutLaws

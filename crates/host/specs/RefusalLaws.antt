@@ -7,21 +7,22 @@ use lib.Dec.{eqb, ltb}
 use mathlib.Core.List.{List}
 use lib.ListN.{length}
 use borrow.Author.Tests.{eqb-true, eqb-false, eq-eqb, ltb-false, not-false}
+use Rattle.forms.specs.Chain.{ownEntries}
 use Rattle.forms.specs.Limits.{largest, nonceLen, maxCounters, maxEntries}
 use Rattle.forms.specs.declared.confirmation.Confirmation.{Confirmation}
 use Rattle.forms.specs.declared.terms.CounterId.{CounterId}
 use Rattle.forms.specs.declared.terms.GlobalClock.{GlobalClock}
 use Rattle.forms.specs.TestsLaws.{neither}
 use Rattle.log_image.specs.State.{State}
-use Rattle.log_image.specs.Sound.{holds}
-use Rattle.host.specs.Host.{heldOf, currentOf, valueAt, openRefusal, tickRefusal, incrementRefusal, confirmRefusal, proveRefusal, lastRefusal, hasEntry, entriesOf}
+use Rattle.log_image.specs.Sound.{holds, base, after}
+use Rattle.host.specs.Host.{heldOf, currentOf, valueAt, openRefusal, tickRefusal, incrementRefusal, confirmRefusal, closeRefusal, proveRefusal, lastRefusal, hasEntry, entriesOf}
 
 -- where a table gives 0, a first row with another number was passed over, and the rest gives 0
 pub refusal-passed : (test : Bool) (number others : ℕ) → not (eqb number 0) ≡ true → cond test number others ≡ 0 → (test ≡ false) × (others ≡ 0)
 refusal-passed true number others refuses e = absurd (false≢true (ap not (sym (eq-eqb number 0 e)) ∙ refuses))
 refusal-passed false number others refuses e = (refl, e)
 
--- ---- open: 15, 16, 18, 19, 20, 21
+-- ---- open: 15, 16, 18, 19, 20, 21, 28
 
 pub record OpenPassed (st : State) (c : Confirmation) (verdict : ℕ) : Type 0 where
   pub agreed : verdict ≡ 1
@@ -32,6 +33,7 @@ pub record OpenPassed (st : State) (c : Confirmation) (verdict : ℕ) : Type 0 w
   pub recent : st .clock .0 - length (st .log) ≤ c .reading .0
   pub past : c .reading .0 ≤ st .clock .0
   pub equal : c .value ≡ c .reading .0
+  pub unnamed : ownEntries (c .id) (after (base st) (c .reading) (st .log)) ≡ 0
 
 pub open-passed : (st : State) (c : Confirmation) (verdict : ℕ) → openRefusal st c verdict ≡ 0 → OpenPassed st c verdict
 open-passed st c verdict e =
@@ -41,6 +43,7 @@ open-passed st c verdict e =
     let f = refusal-passed _ 19 _ refl (d .1) in
     let g = refusal-passed _ 20 _ refl (f .1) in
     let h = refusal-passed _ 21 _ refl (g .1) in
+    let k = refusal-passed _ 28 _ refl (h .1) in
     record {
       agreed = eqb-true verdict 1 (not-false _ (a .0));
       named = eqb-false (c .id .0) 0 (neither _ _ (b .0) .0);
@@ -50,6 +53,7 @@ open-passed st c verdict e =
       recent = ltb-false (c .reading .0) (st .clock .0 - length (st .log)) (g .0);
       past = ltb-false (st .clock .0) (c .reading .0) (neither _ _ (h .0) .0);
       equal = eqb-true (c .value) (c .reading .0) (not-false _ (neither (ltb (st .clock .0) (c .reading .0)) _ (h .0) .1));
+      unnamed = eqb-true (ownEntries (c .id) (after (base st) (c .reading) (st .log))) 0 (not-false _ (k .0));
     }
 
 -- ---- tick: 16, 24, 25
@@ -167,4 +171,30 @@ confirm-passed st c verdict e =
       later = ltb-false (c .reading .0) (heldOf st (c .id) .reading .0) (f .0);
       past = ltb-false (st .clock .0) (c .reading .0) (neither _ _ (g .0) .0);
       value = eqb-true (c .value) (valueAt st (c .id) (c .reading)) (not-false _ (neither (ltb (st .clock .0) (c .reading .0)) _ (g .0) .1));
+    }
+
+-- ---- close: 15, 16, 17, 21, 22
+
+pub record ClosePassed (st : State) (c : Confirmation) (verdict : ℕ) : Type 0 where
+  pub agreed : verdict ≡ 1
+  pub named : c .id .0 ≡ 0 → ⊥
+  pub low : c .value ≤ c .reading .0
+  pub held : holds (st .records) (c .id) ≡ true
+  pub now : c .reading .0 ≡ st .clock .0
+  pub current : c .value ≡ currentOf st (c .id)
+
+pub close-passed : (st : State) (c : Confirmation) (verdict : ℕ) → closeRefusal st c verdict ≡ 0 → ClosePassed st c verdict
+close-passed st c verdict e =
+    let a = refusal-passed _ 15 _ refl e in
+    let b = refusal-passed _ 16 _ refl (a .1) in
+    let d = refusal-passed _ 17 _ refl (b .1) in
+    let f = refusal-passed _ 21 _ refl (d .1) in
+    let g = refusal-passed _ 22 _ refl (f .1) in
+    record {
+      agreed = eqb-true verdict 1 (not-false _ (a .0));
+      named = eqb-false (c .id .0) 0 (neither _ _ (b .0) .0);
+      low = ltb-false (c .reading .0) (c .value) (neither (eqb (c .id .0) 0) _ (b .0) .1);
+      held = not-false _ (d .0);
+      now = eqb-true (c .reading .0) (st .clock .0) (not-false _ (f .0));
+      current = eqb-true (c .value) (currentOf st (c .id)) (not-false _ (g .0));
     }

@@ -1,6 +1,7 @@
 // open: takes up a counter by its owner's confirmation, whose value is its reading.
 use crate::answer::Figures;
 use crate::counter::is_held;
+use crate::counter::named_after;
 use crate::refusal::bad_confirmation;
 use crate::refusal::bad_opening;
 use forms::confirmation::Confirmation;
@@ -40,11 +41,15 @@ fn open_refusal(image: &[u8], confirmation: Confirmation, verdict: u32) -> u32
         return 19;
     }
     let now = clock(image);
-    if confirmation.reading.0 < now.0 - entry_count(image) {
+    let base = now.0 - entry_count(image);
+    if confirmation.reading.0 < base {
         return 20;
     }
     if bad_opening(confirmation, now) {
         return 21;
+    }
+    if named_after(image, confirmation.id, confirmation.reading) {
+        return 28;
     }
     0
 }
@@ -62,9 +67,10 @@ fn add_record(image: &mut [u8], confirmation: Confirmation) -> u32
     count + 1
 }
 
-// Answers 0 and the count of counters, or refuses by 14 to 16 or 18 to 21 with value 0 and the image as it was.
+// Answers 0 and the count of counters, or refuses by 14 to 16, 18 to 21 or 28 with value 0 and the image as it was.
 //
-// Ruled out, among others: a host that takes up a counter that it holds; one that cries a full table at 63 counters.
+// Ruled out, among others: a host that takes up a counter that it holds; one that cries a full table at 63 counters; one that takes up a
+// closed counter again while the log still has a later entry of it; one that refuses it for an entry that is not later.
 pub fn open(image: &mut [u8], confirmation: Confirmation, verdict: u32) -> Figures
     ensures { λ r. ⌜ r ≡ openCall (now (image .entry)) confirmation verdict .figures ⌝ }
     ensures { λ _. ⌜ now (image .exit) ≡ openCall (now (image .entry)) confirmation verdict .image ⌝ }

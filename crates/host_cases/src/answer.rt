@@ -1,8 +1,10 @@
 // A line's call is made and its answer printed: the call, number and value, for read the openings, whether the image changed and its checksum;
 // the same of the output where the call has one.
+use crate::IMAGE_ROOM;
 use crate::call;
 use crate::call::Call;
 use forms::bytes::byte_at;
+use forms::bytes::put;
 use host::answer::ReadFigures;
 use libc::STDOUT_FILENO;
 use text::checksum::checksum;
@@ -92,8 +94,17 @@ pub(crate) fn print(text: &[u8], lent: usize, image: &mut [u8]) {
     print_call(text, lent, image, &mut out);
 }
 
-// Every call but start, each of which the image of the table's damaged cases would take if it were sound.
+// The call gets a copy, and the image stays.
+fn print_on_copy(text: &[u8], lent: usize, image: &[u8]) {
+    let mut copy = [0u8; IMAGE_ROOM];
+    put(&mut copy, 0, image);
+    print(text, lent, &mut copy);
+}
+
+// Every call but start, each of which the image of the table's damaged cases would take if it were sound. close is made on a copy, since the
+// others ask for the counter that it takes out.
 pub(crate) fn print_each(lent: usize, image: &mut [u8]) {
+    print_on_copy(b"close 7 104 104 1 ", lent, image);
     print(b"open 6 104 104 1 ", lent, image);
     print(b"tick 8 20 ", lent, image);
     print(b"inc 8 20 7 104 1 ", lent, image);

@@ -7,6 +7,7 @@ use forms::terms::CounterId;
 use forms::terms::GlobalClock;
 use host::answer::Figures;
 use host::answer::ReadFigures;
+use host::close::close;
 use host::confirm::confirm;
 use host::last::last;
 use host::open::open;
@@ -26,7 +27,7 @@ const FIGURES: usize = 5;
 // Room for a nonce that is one byte too long.
 const NONCE_ROOM: usize = LEN + 1;
 
-// The first letter of a line's word, and its figures in order, 0 where there is none.
+// The letter of a line's word, and its figures in order, 0 where there is none.
 pub struct Call {
     pub word: u8,
     pub first: u32,
@@ -34,6 +35,16 @@ pub struct Call {
     pub third: u32,
     pub fourth: u32,
     pub fifth: u32,
+}
+
+// The first letter of a line's word; close has one of its own, since confirm begins with the same.
+fn letter(line: &[u8]) -> u8 {
+    let first = byte_at(line, 0);
+    if first == b'c' && byte_at(line, 1) == b'l' {
+        b'x'
+    } else {
+        first
+    }
 }
 
 impl Call {
@@ -54,7 +65,7 @@ impl Call {
         let end = find(line, space, b'=');
         let mut given = [0u32; FIGURES];
         read_figures(between(line, space, end), &mut given);
-        Call::new(byte_at(line, 0), given)
+        Call::new(letter(line), given)
     }
 }
 
@@ -100,7 +111,7 @@ fn without_openings(figures: Figures) -> ReadFigures {
 }
 
 // The answer of a line's call but read: `start clock`, `open id value reading verdict`, `tick byte length`, `inc byte length id before verdict`,
-// `prove byte length id room`, `last id t room`, `confirm id value reading verdict`, and those of many.rt.
+// `prove byte length id room`, `last id t room`, `confirm id value reading verdict`, `close id value reading verdict`, and those of many.rt.
 fn settled(call: Call, image: &mut [u8], out: &mut [u8]) -> Figures {
     let word = call.word;
     match word {
@@ -111,6 +122,7 @@ fn settled(call: Call, image: &mut [u8], out: &mut [u8]) -> Figures {
         b'p' => proved(image, call, out),
         b'l' => proved_last(image, call, out),
         b'c' => confirm(image, confirmation(call), call.fourth),
+        b'x' => close(image, confirmation(call), call.fourth),
         _ => many::made(image, call),
     }
 }

@@ -10,7 +10,7 @@ use forms::image::Image;
 use libc::STDIN_FILENO;
 
 // Room for an image and a byte behind it.
-const IMAGE_ROOM: usize = Image::LEN + 1;
+pub(crate) const IMAGE_ROOM: usize = Image::LEN + 1;
 
 fn main() {
     let mut text = io::large_buffer();

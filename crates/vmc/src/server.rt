@@ -4,6 +4,7 @@ use forms::terms::CounterId;
 use forms::terms::GlobalClock;
 use host::answer::Figures;
 use host::answer::ReadFigures;
+use host::close::close;
 use host::confirm::confirm;
 use host::last::last;
 use host::open::open;
@@ -16,7 +17,7 @@ ghost use mathlib.Core.Path.{_≡_};
 ghost use lib.ListN.{length};
 ghost use Rattle.forms.specs.Confirmation.{confirmationOf};
 ghost use Rattle.forms.specs.Terms.{counterId, globalClock};
-ghost use Rattle.host.specs.Host.{confirmCall, incrementCall, lastCall, lastOutput, openCall, proveCall, proveOutput, readCall, startCall, tickCall};
+ghost use Rattle.host.specs.Host.{closeCall, confirmCall, incrementCall, lastCall, lastOutput, openCall, proveCall, proveOutput, readCall, startCall, tickCall};
 
 #[no_mangle]
 pub extern "C" fn vmc_host_start(image: &mut [u8], clock: u32) -> Figures
@@ -101,4 +102,19 @@ pub extern "C" fn vmc_host_confirm(
 {
     let confirmation = Confirmation::new(CounterId(id), value, GlobalClock(reading));
     confirm(image, confirmation, verdict)
+}
+
+#[no_mangle]
+pub extern "C" fn vmc_host_close(
+    image: &mut [u8],
+    id: u32,
+    value: u32,
+    reading: u32,
+    verdict: u32,
+) -> Figures
+    ensures { λ r. ⌜ r ≡ closeCall (now (image .entry)) (confirmationOf id value reading) verdict .figures ⌝ }
+    ensures { λ _. ⌜ now (image .exit) ≡ closeCall (now (image .entry)) (confirmationOf id value reading) verdict .image ⌝ }
+{
+    let confirmation = Confirmation::new(CounterId(id), value, GlobalClock(reading));
+    close(image, confirmation, verdict)
 }

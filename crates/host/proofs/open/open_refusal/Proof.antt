@@ -4,12 +4,13 @@ use mathlib.Core.Bool.{not, _||_}
 use Prim.Native.Nat.{ℕ, _-_}
 use native.Mathlib.Omega.{arith}
 use borrow.Author.Needs.{needs}
-use borrow.Author.Tests.{eq-eqb, ne-eqb, lt-ltb, le-ltb}
+use borrow.Author.Tests.{eq-eqb, ne-eqb, lt-ltb, le-ltb, ltb-false}
 use lib.Dec.{eqb, ltb}
 use lib.ListN.{drop, length}
 use Rattle.forms.specs.Checks.{firstOf}
 use Rattle.forms.specs.declared.terms.GlobalClock.{GlobalClock}
 use Rattle.forms.specs.ChecksLaws.{passed, given}
+use Rattle.forms.specs.TestsLaws.{neither}
 use Rattle.log_image.specs.State.{State, decode}
 use Rattle.log_image.specs.DecodeLaws.{count-entries}
 use Rattle.host.specs.Host.{openRows}
@@ -78,11 +79,26 @@ late c =
     ∙ ap (λ (t : GlobalClock). ltb (t .0) (k .reading .0) || not (eqb (k .value) (k .reading .0))) (entries-5 (c .before) .before .clock .ensures))
 
 -- a sound image has no more entries than the clock has had readings
-fewer : tie.Need-sub-if5
+fewer : tie.Need-sub-base
 unfolding decode
 fewer c =
     let s = start-4 (c .before .before .before) in
     omega (arith, c .before .entry-count .ensures, ap (λ (t : GlobalClock). t .0) (c .before .before .clock .ensures), bytes-sound (s .args .image .now) (s .pre) .span)
+
+abbrev start-6 : tie.Else6 → tie.Start
+start-6 c = start-5 (c .before .before)
+
+rest-6 : (c : tie.Else6) → rest 0 (start-6 c) ≡ rest 6 (start-6 c)
+rest-6 c = passed _ 21 _ (rest-5 (c .before .before)) (late (c .before) ∙ c .if6 .left)
+
+-- the reading lies within the log
+within : tie.Need-named-after-requires
+within c κs =
+    let s = start-6 c in
+    let entries = entries-5 (c .before .before) in
+    let k = s .args .confirmation in
+    let past = ltb-false (state s .clock .0) (k .reading .0) (neither _ _ (late (c .before) ∙ c .if6 .left) .0) in
+    (s .pre, (omega (arith, early entries, c .before .before .if5 .left), omega (arith, early entries, past)))
 
 pub open-refusal-spec : {M : Type 1} → statement M
 open-refusal-spec =
@@ -102,4 +118,6 @@ open-refusal-spec =
     given _ 20 _ (rest-4 (entries .before .before)) (ap (ltb (start-4 (entries .before .before) .args .confirmation .reading .0)) (early entries) ∙ lt-ltb _ _ (c .if5 .taken)))
     (λ c κs. search needs)
     (λ c. given _ 21 _ (rest-5 (c .before .before)) (late (c .before) ∙ c .if6 .taken))
-    (λ c. sym (passed _ 21 _ (rest-5 (c .before .before)) (late (c .before) ∙ c .if6 .left))))
+    within
+    (λ c. given _ 28 _ (rest-6 (c .before .before)) (sym (c .before .named-after .ensures) ∙ c .if7 .taken))
+    (λ c. sym (passed _ 28 _ (rest-6 (c .before .before)) (sym (c .before .named-after .ensures) ∙ c .if7 .left))))

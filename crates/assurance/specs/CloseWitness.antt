@@ -1,0 +1,354 @@
+-- The host's claim speaks of closing: a list along which a counter is closed while it holds the log back, is refused by 28 and then opened
+-- again, and the desk accepts the proofs of another counter before and after. From a start at 100, counter 7 is raised at 101 and 102, and 9
+-- is opened at 101. And the program has no line for it. Assumes nothing.
+use Prim.Native.Nat.{ℕ, _+_, _<_}
+use mathlib.Core.Path.{_≡_, refl, sym, ap, ap₂, subst, _∙_}
+use mathlib.Core.List.{List, [], _∷_}
+use native.Mathlib.Omega.{arith}
+use lib.Dec.{lit<}
+use lib.ListN.{length, take, replicate}
+use Rattle.forms.specs.Bytes.{same}
+use Rattle.forms.specs.Chain.{step, runningAfter, ownEntries}
+use Rattle.forms.specs.Entry.{entryOf}
+use Rattle.forms.specs.PartsLaws.{ConfirmationFits}
+use Rattle.forms.specs.Terms.{counterId, globalClock}
+use Rattle.forms.specs.declared.confirmation.Confirmation.{Confirmation}
+use Rattle.forms.specs.declared.entry.Entry.{Entry}
+use Rattle.forms.specs.declared.running.Running.{Running}
+use Rattle.forms.specs.declared.terms.CounterId.{CounterId}
+use Rattle.validity.specs.Proof.{shapeOf, proofLen}
+use Rattle.grammar.specs.Command.{argumentsOf, named, byWords}
+use Rattle.grammar.specs.declared.command.Arguments.{Arguments}
+use Rattle.grammar.specs.declared.command.Command.{Command}
+use Rattle.log_image.specs.FitLaws.{start-fits}
+use Rattle.log_image.specs.ImageRoundTrip.{decode-encode}
+use Rattle.log_image.specs.Sound.{holds, oldest, after, ending}
+use Rattle.log_image.specs.State.{Record, State, decode}
+use Rattle.host.specs.Host.{Settled, recordOf, runningOf, openRefusal, incrementRefusal, readRefusal, proveRefusal, closeRefusal, opened, updated, incremented, counted, without, closedState, proofOf, answered, settled, startCall, openCall, closeCall, proveOutput}
+use Rattle.host.specs.RaiseLaws.{started-sound}
+use Rattle.host.specs.SettledLaws.{answered-done, settled-refused, settled-done}
+use Rattle.host.specs.declared.answer.Figures.{Figures}
+use Rattle.console.specs.Step.{ran}
+use Rattle.assurance.specs.HostList.{HostCall, settledBy, Taken, readRunning, Fair, Runs}
+use Rattle.assurance.specs.HostListWitness.{nonceOf, nonce-bytes, blank, blank-long, start-image}
+use Rattle.assurance.specs.HostProof.{host-claim}
+use Rattle.assurance.specs.HostSteps.{Kept, Steady, steady-kept, open-steady, increment-steady, counted-steady, close-steady}
+
+-- ---- a place in a list of calls
+
+-- an image that every call may be handed, and the state that it says
+pub record Stands (s : List ℕ) (st : State) : Type 0 where
+  pub kept : Kept s
+  pub says : decode s ≡ st
+
+-- a call there that is not refused: what it answers, and where it leads
+pub record Done (r : Settled) (value : ℕ) (next : State) : Type 0 where
+  pub answers : r .figures ≡ record { number = 0; value = value }
+  pub leads : Stands (r .image) next
+
+done : {s : List ℕ} {st : State} (number value : State → ℕ) (next : State → State) {to : State} → Stands s st → number st ≡ 0 → Steady (next (decode s)) → next st ≡ to
+    → Done (settled s (number (decode s)) (value (decode s)) (next (decode s))) (value st) to
+done {s} {st} number value next {to} here none steady becomes =
+    let e = settled-done s (number (decode s)) (value (decode s)) (next (decode s)) (here .kept .is-sound) (ap number (here .says) ∙ none) in
+    record {
+      answers = ap (λ (r : Settled). r .figures) e ∙ ap (λ (x : State). record { number = 0; value = value x }) (here .says);
+      leads = subst (λ (image : List ℕ). Stands image to) (sym (ap (λ (r : Settled). r .image) e))
+          (record { kept = steady-kept (next (decode s)) steady; says = decode-encode (next (decode s)) (steady .1) ∙ ap next (here .says) ∙ becomes });
+    }
+
+-- ---- the counters
+
+abbrev seven : CounterId
+seven = counterId 7
+
+abbrev nine : CounterId
+nine = counterId 9
+
+-- a confirmation of a counter with a value that is its reading
+abbrev signed : CounterId → ℕ → Confirmation
+signed id t = record { id = id; value = t; reading = globalClock t }
+
+abbrev recordWith : CounterId → ℕ → ℕ → Record
+recordWith id t current = record { held = signed id t; current = current }
+
+-- the entry of a raise of 7, with the nonce of a byte
+abbrev raiseAt : ℕ → ℕ → ℕ → Entry
+raiseAt t before b = record { reading = globalClock t; nonce = nonceOf b; id = seven; before = before }
+
+abbrev state : ℕ → List Record → List Entry → ℕ → State
+state clock records log written = record { clock = globalClock clock; records = records; log = log; written = written }
+
+-- room for a proof of two entries
+abbrev room : List ℕ
+room = replicate {A = ℕ} 124 0
+
+-- ---- the states along the list
+
+-- counter 7 is opened at the clock of the start, and raised
+abbrev begun : State
+begun = state 100 [] [] 0
+
+abbrev holding : State
+holding = state 100 (recordWith seven 100 100 ∷ []) [] 0
+
+abbrev raised : State
+raised = state 101 (recordWith seven 100 101 ∷ []) (raiseAt 101 100 1 ∷ []) 0
+
+-- counter 9 is opened; then 7 is raised again, and a proof of 9 written
+abbrev holding-both : State
+holding-both = state 101 (recordWith seven 100 101 ∷ recordWith nine 101 101 ∷ []) (raiseAt 101 100 1 ∷ []) 0
+
+abbrev twice-raised : ℕ → State
+twice-raised written = state 102 (recordWith seven 100 102 ∷ recordWith nine 101 101 ∷ []) (raiseAt 101 100 1 ∷ raiseAt 102 101 2 ∷ []) written
+
+-- 7 is closed: of its entries that at 101 falls away, and that at 102, which 9 needs, stays
+abbrev closed : State
+closed = state 102 (recordWith nine 101 101 ∷ []) (raiseAt 102 101 2 ∷ []) 1
+
+-- 7 is opened again, behind 9, and raised
+abbrev reopened : State
+reopened = state 102 (recordWith nine 101 101 ∷ recordWith seven 102 102 ∷ []) (raiseAt 102 101 2 ∷ []) 1
+
+abbrev raised-anew : State
+raised-anew = state 103 (recordWith nine 101 101 ∷ recordWith seven 102 103 ∷ []) (raiseAt 102 101 2 ∷ raiseAt 103 102 4 ∷ []) 1
+
+-- ---- the calls
+
+abbrev opening : CounterId → ℕ → HostCall
+opening id t = HostCall.«open» (signed id t) 1
+
+abbrev raising : ℕ → ℕ → HostCall
+raising b before = HostCall.increment (nonceOf b) seven before 1
+
+abbrev proving : ℕ → HostCall
+proving b = HostCall.prove (nonceOf b) nine room
+
+abbrev closing : HostCall
+closing = HostCall.close (signed seven 102) 1
+
+abbrev pub calls : List HostCall
+calls =
+    opening seven 100
+    ∷ raising 1 100
+    ∷ opening nine 101
+    ∷ raising 2 101
+    ∷ proving 3
+    ∷ closing
+    ∷ opening seven 101
+    ∷ opening seven 102
+    ∷ raising 4 102
+    ∷ proving 5
+    ∷ []
+
+-- ---- the images along it
+
+pub begun-image : List ℕ
+begun-image = startCall blank (globalClock 100) .image
+
+pub holding-image : List ℕ
+holding-image = settledBy begun-image (opening seven 100) .image
+
+pub raised-image : List ℕ
+raised-image = settledBy holding-image (raising 1 100) .image
+
+pub both-image : List ℕ
+both-image = settledBy raised-image (opening nine 101) .image
+
+pub twice-image : List ℕ
+twice-image = settledBy both-image (raising 2 101) .image
+
+pub shown-image : List ℕ
+shown-image = settledBy twice-image (proving 3) .image
+
+pub closed-image : List ℕ
+closed-image = settledBy shown-image closing .image
+
+pub refused-image : List ℕ
+refused-image = settledBy closed-image (opening seven 101) .image
+
+pub reopened-image : List ℕ
+reopened-image = settledBy refused-image (opening seven 102) .image
+
+pub anew-image : List ℕ
+anew-image = settledBy reopened-image (raising 4 102) .image
+
+-- ---- each call
+
+confirmed-fits : (id t : ℕ) → id < 4294967296 → t < 4294967296 → ConfirmationFits (signed (counterId id) t)
+confirmed-fits id t small low = record { id = small; value = low; reading = low }
+
+begun-here : Stands begun-image begun
+unfolding begun-image
+begun-here =
+    subst (λ (image : List ℕ). Stands image begun) (sym start-image)
+    (record { kept = steady-kept begun (started-sound (globalClock 100), start-fits (globalClock 100) (lit< tt)); says = decode-encode begun (start-fits (globalClock 100) (lit< tt)) })
+
+opens : {s : List ℕ} {st to : State} (id : CounterId) (t : ℕ) → ConfirmationFits (signed id t) → Stands s st → openRefusal st (signed id t) 1 ≡ 0 → opened st (signed id t) ≡ to
+    → Done (settledBy s (opening id t)) (length (st .records) + 1) to
+opens {s} {st} id t fits here none becomes =
+    done (λ x. openRefusal x (signed id t) 1) (λ x. length (x .records) + 1) (λ x. opened x (signed id t)) here none
+    (open-steady s (here .kept) (signed id t) 1 fits (ap (λ (x : State). openRefusal x (signed id t) 1) (here .says) ∙ none)) becomes
+
+raises : {s : List ℕ} {st to : State} (b value : ℕ) → b < 256 → value < 4294967296 → Stands s st → incrementRefusal st (nonceOf b) seven value 1 ≡ 0
+    → incremented st (nonceOf b) seven value ≡ to → Done (settledBy s (raising b value)) (st .clock .0 + 1) to
+raises {s} {st} b value byte small here none becomes =
+    done (λ x. incrementRefusal x (nonceOf b) seven value 1) (λ x. x .clock .0 + 1) (λ x. incremented x (nonceOf b) seven value) here none
+    (increment-steady s (here .kept) (nonceOf b) seven value 1 (nonce-bytes b byte) (lit< tt) small
+    (ap (λ (x : State). incrementRefusal x (nonceOf b) seven value 1) (here .says) ∙ none)) becomes
+
+abbrev proveLen : ℕ → State → ℕ
+proveLen b st = proofLen (shapeOf (proofOf st (nonceOf b) nine))
+
+proves : {s : List ℕ} {st to : State} (b : ℕ) → Stands s st → proveRefusal st (nonceOf b) nine (proveLen b st) (length room) ≡ 0 → counted st ≡ to
+    → Done (settledBy s (proving b)) (proveLen b st) to
+proves {s} b here none becomes =
+    done (λ x. proveRefusal x (nonceOf b) nine (proveLen b x) (length room)) (proveLen b) counted here none (counted-steady s (here .kept)) becomes
+
+-- ---- up to the closing
+
+open-seven : Done (settledBy begun-image (opening seven 100)) 1 holding
+unfolding holds oldest after ownEntries
+open-seven = opens seven 100 (confirmed-fits 7 100 (lit< tt) (lit< tt)) begun-here refl refl
+
+holding-here : Stands holding-image holding
+unfolding holding-image
+holding-here = open-seven .leads
+
+raise-seven : Done (settledBy holding-image (raising 1 100)) 101 raised
+unfolding holds recordOf ending oldest after runningAfter step updated entryOf
+raise-seven = raises 1 100 (lit< tt) (lit< tt) holding-here refl refl
+
+raised-here : Stands raised-image raised
+unfolding raised-image
+raised-here = raise-seven .leads
+
+open-nine : Done (settledBy raised-image (opening nine 101)) 2 holding-both
+unfolding holds oldest after ownEntries
+open-nine = opens nine 101 (confirmed-fits 9 101 (lit< tt) (lit< tt)) raised-here refl refl
+
+both-here : Stands both-image holding-both
+unfolding both-image
+both-here = open-nine .leads
+
+raise-twice : Done (settledBy both-image (raising 2 101)) 102 (twice-raised 0)
+unfolding holds recordOf ending oldest after runningAfter step updated entryOf
+raise-twice = raises 2 101 (lit< tt) (lit< tt) both-here refl refl
+
+twice-here : Stands twice-image (twice-raised 0)
+unfolding twice-image
+twice-here = raise-twice .leads
+
+-- the first proof: a header, a confirmation, a certificate and an entry
+prove-before : Done (settledBy twice-image (proving 3)) 92 (twice-raised 1)
+unfolding holds recordOf oldest after
+prove-before = proves 3 twice-here refl refl
+
+shown-here : Stands shown-image (twice-raised 1)
+unfolding shown-image
+shown-here = prove-before .leads
+
+-- ---- the closing
+
+-- one counter is left, and of two entries one
+pub closes : Done (closeCall shown-image (signed seven 102) 1) 1 closed
+unfolding holds recordOf ending oldest after runningAfter step without
+closes =
+    done (λ x. closeRefusal x (signed seven 102) 1) (λ x. length (closedState x seven .records)) (λ x. closedState x seven) shown-here refl
+    (close-steady shown-image (shown-here .kept) (signed seven 102) 1 (ap (λ (x : State). closeRefusal x (signed seven 102) 1) (shown-here .says))) refl
+
+closed-here : Stands closed-image closed
+unfolding closed-image
+closed-here = closes .leads
+
+-- at 101 it is not opened again, since the entry at 102 names it: the image stays as it was
+pub refuses : openCall closed-image (signed seven 101) 1 ≡ record { figures = record { number = 28; value = 0 }; image = closed-image }
+unfolding holds oldest after ownEntries
+refuses =
+    let number = ap (λ (x : State). openRefusal x (signed seven 101) 1) (closed-here .says) in
+    settled-refused closed-image _ _ _ (closed-here .kept .is-sound) (λ none. let no : ⊥ = omega (arith, number, none) in no)
+    ∙ ap (λ (n : ℕ). record { figures = record { number = n; value = 0 }; image = closed-image }) number
+
+refused-here : Stands refused-image closed
+unfolding refused-image
+refused-here = subst (λ (image : List ℕ). Stands image closed) (sym (ap (λ (r : Settled). r .image) refuses)) closed-here
+
+-- at 102 it is
+pub reopens : Done (openCall refused-image (signed seven 102) 1) 2 reopened
+unfolding holds oldest after ownEntries
+reopens = opens seven 102 (confirmed-fits 7 102 (lit< tt) (lit< tt)) refused-here refl refl
+
+reopened-here : Stands reopened-image reopened
+unfolding reopened-image
+reopened-here = reopens .leads
+
+raise-anew : Done (settledBy reopened-image (raising 4 102)) 103 raised-anew
+unfolding holds recordOf ending oldest after runningAfter step updated entryOf
+raise-anew = raises 4 102 (lit< tt) (lit< tt) reopened-here refl refl
+
+anew-here : Stands anew-image raised-anew
+unfolding anew-image
+anew-here = raise-anew .leads
+
+-- ---- what the claim says of the two proofs
+
+claimed : Fair twice-image (proving 3) × Fair anew-image (proving 5)
+unfolding Runs begun-image holding-image raised-image both-image twice-image shown-image closed-image refused-image reopened-image anew-image
+claimed =
+    let widths : (id t : ℕ) → id < 4294967296 → t < 4294967296 → ConfirmationFits (signed (counterId id) t) = confirmed-fits in
+    let start : Runs begun-image calls = host-claim blank (globalClock 100) calls blank-long (lit< tt) in
+    let one : Runs raised-image (opening nine 101 ∷ raising 2 101 ∷ proving 3 ∷ closing ∷ opening seven 101 ∷ opening seven 102 ∷ raising 4 102 ∷ proving 5 ∷ []) =
+    start (widths 7 100 (lit< tt) (lit< tt)) .2 (nonce-bytes 1 (lit< tt), lit< tt, lit< tt) .2 in
+    let two : Runs twice-image (proving 3 ∷ closing ∷ opening seven 101 ∷ opening seven 102 ∷ raising 4 102 ∷ proving 5 ∷ []) =
+    one (widths 9 101 (lit< tt) (lit< tt)) .2 (nonce-bytes 2 (lit< tt), lit< tt, lit< tt) .2 in
+    let first = two (nonce-bytes 3 (lit< tt), lit< tt) in
+    let three : Runs closed-image (opening seven 101 ∷ opening seven 102 ∷ raising 4 102 ∷ proving 5 ∷ []) = first .2 (widths 7 102 (lit< tt) (lit< tt)) .2 in
+    let four : Runs reopened-image (raising 4 102 ∷ proving 5 ∷ []) = three (widths 7 101 (lit< tt) (lit< tt)) .2 (widths 7 102 (lit< tt) (lit< tt)) .2 in
+    let five : Runs anew-image (proving 5 ∷ []) = four (nonce-bytes 4 (lit< tt), lit< tt, lit< tt) .2 in
+    (first .0, five (nonce-bytes 5 (lit< tt), lit< tt) .0)
+
+-- counter 9 has not been raised since its opening
+abbrev unraised : Running
+unraised = record { value = 101; openings = 0 }
+
+-- where the state is known, so is all that the claim says of a proof
+shows : {s : List ℕ} {st : State} {value : ℕ} {to : State} (b : ℕ) → Stands s st → Done (settledBy s (proving b)) value to → Fair s (proving b)
+    → readRefusal st nine ≡ 0 → runningOf st nine ≡ unraised
+    → Taken (take value (proveOutput s (nonceOf b) nine room)) (proofOf st (nonceOf b) nine) nine (nonceOf b) unraised (st .clock)
+shows {s} {st} {value} b here proved fair none running =
+    let read : (part : Running → ℕ) → answered s (readRefusal (decode s) nine) (part (runningOf (decode s) nine)) ≡ record { number = 0; value = part (runningOf st nine) } = λ part.
+    ap (λ (x : State). answered s (readRefusal x nine) (part (runningOf x nine))) (here .says)
+    ∙ answered-done s (readRefusal st nine) (part (runningOf st nine)) (here .kept .is-sound) none in
+    let seen : readRunning s nine ≡ unraised =
+    ap₂ (λ (f g : Figures). record { value = f .value; openings = g .value }) (read (λ r. r .value)) (read (λ r. r .openings)) ∙ running in
+    let there = fair (ap (λ (f : Figures). f .number) (proved .answers)) .1 in
+    let proof : ℕ → List ℕ = λ n. take n (proveOutput s (nonceOf b) nine room) in
+    subst (λ (x : State). Taken (proof value) (proofOf x (nonceOf b) nine) nine (nonceOf b) unraised (x .clock)) (here .says)
+    (subst (λ (r : Running). Taken (proof value) (proofOf (decode s) (nonceOf b) nine) nine (nonceOf b) r (decode s .clock)) seen
+    (subst (λ (n : ℕ). Taken (proof n) (proofOf (decode s) (nonceOf b) nine) nine (nonceOf b) (readRunning s nine) (decode s .clock)) (ap (λ (f : Figures). f .value) (proved .answers))
+    there))
+
+-- before the closing the desk accepts 92 bytes, with an entry of counter 7, and shows 101 at 102
+pub taken-before : Taken (take 92 (proveOutput twice-image (nonceOf 3) nine room)) (proofOf (twice-raised 0) (nonceOf 3) nine) nine (nonceOf 3) unraised (globalClock 102)
+unfolding holds recordOf ending oldest after runningAfter step
+taken-before = shows 3 twice-here prove-before (claimed .0) refl refl
+
+-- and after it 124, with an entry of the closed counter and one of the reopened, and shows 101 at 103
+pub taken-after : Taken (take 124 (proveOutput anew-image (nonceOf 5) nine room)) (proofOf raised-anew (nonceOf 5) nine) nine (nonceOf 5) unraised (globalClock 103)
+unfolding holds recordOf ending oldest after runningAfter step
+taken-after = shows 5 anew-here (proves 5 anew-here refl refl) (claimed .1) refl refl
+
+-- ---- the program
+
+abbrev closeName : List ℕ
+closeName = 99 ∷ 108 ∷ 111 ∷ 115 ∷ 101 ∷ []
+
+-- its lines are those of document 01: one that begins with `close` answers 27, whatever figures follow, and leaves the image
+pub no-line : (s : List ℕ) (figures : List (List ℕ)) → ran s (byWords (closeName ∷ figures)) ≡ record { figures = record { number = 27; value = 0 }; image = s }
+unfolding same ran
+no-line s figures = ap (ran s) (go (argumentsOf figures))
+  where
+    go : (a : Arguments) → named closeName a ≡ Command.Other
+    go (Arguments.One a) = refl
+    go (Arguments.Two a b) = refl
+    go (Arguments.Three a b c) = refl
+    go Arguments.Bad = refl
