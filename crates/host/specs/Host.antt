@@ -161,21 +161,22 @@ closeRefusal st c verdict = firstOf (closeRows st c verdict) 0
 
 -- ---- effects
 
+-- the state with other records
+abbrev pub withRecords : State → List Record → State
+withRecords st rs = record { clock = st .clock; records = rs; log = st .log; written = st .written }
+
+-- and with the log cut to their oldest reading: the entries up to it are no longer needed
+abbrev pub cutTo : State → List Record → State
+cutTo st rs = record { clock = st .clock; records = rs; log = drop (oldest (st .clock) rs - base st) (st .log); written = st .written }
+
 -- the records with that of a counter changed
 unfoldable pub updated : List Record → CounterId → (Record → Record) → List Record
 updated [] id change = []
 updated (r ∷ rs) id change = cond (sameId (r .held .id) id) (change r ∷ rs) (r ∷ updated rs id change)
 
--- the state with other records
-abbrev pub withRecords : State → List Record → State
-withRecords st rs = record { clock = st .clock; records = rs; log = st .log; written = st .written }
-
+-- and the state with them
 abbrev pub updatedState : State → CounterId → (Record → Record) → State
 updatedState st id change = withRecords st (updated (st .records) id change)
-
--- and with the log cut to their oldest reading: the entries up to it are no longer needed
-abbrev pub cutTo : State → List Record → State
-cutTo st rs = record { clock = st .clock; records = rs; log = drop (oldest (st .clock) rs - base st) (st .log); written = st .written }
 
 -- "start writes an image with a given clock, no boxes"
 abbrev pub started : GlobalClock → State
