@@ -1,8 +1,8 @@
 /*
  * The proved desk beside two plain ones: first that all give the same five figures, then how long each takes.
  *
- * Exits with 1 where any figure differs, or where a check that the desk has, or an accepted proof with openings, was never met, so that the
- * comparison would be hollow.
+ * Exits with 1 where any figure differs, or where a check that the desk has, an accepted proof with openings, or one of the answers that
+ * turn on an entry that its owner did not sign was never met, so that the comparison would be hollow.
  */
 #define _POSIX_C_SOURCE 200809L
 #include "desk_plain.h"
@@ -13,7 +13,9 @@
 #include <string.h>
 #include <time.h>
 
-enum { CASES = 200000, ROUNDS = 300, CALLS = 40, IMPLEMENTATIONS = 3, NUMBERS = 14 };
+enum { CASES = 200000, ROUNDS = 300, CALLS = 40, IMPLEMENTATIONS = 3 };
+/* The numbers of the desk's answers are those below 14, without 12. */
+enum { NUMBERS = 14, NOT_GIVEN = 12 };
 /* Room to lend a proof or a verdict list longer than it should be. */
 enum { SLACK = 64 };
 
@@ -62,20 +64,40 @@ static uint8_t *put_nonce(uint8_t *at, uint8_t b)
     return at + VMC_NONCE_LEN;
 }
 
-/* A question that the desk accepts, unless g + n is too large for a reading: a proof of n entries after reading g, of which one in
- * `every` is the wanted counter's, at random or in turn. In kind 2 the last one always is. */
-static void build(struct question *q, uint32_t kind, uint32_t id, uint32_t value, uint32_t g, uint32_t n, uint32_t every, bool in_turn)
+/* Where entry i, from 1, begins in a proof of a kind, and where its owner's verdict is. */
+static uint32_t entry_at(uint32_t kind, uint32_t i)
 {
-    uint32_t log = kind == 1 ? 60 : 36;
+    return (kind == 1 ? 60 : 36) + 32 * (i - 1);
+}
+
+static uint32_t owner_at(uint32_t kind, uint32_t i)
+{
+    return (kind == 1 ? 2 : 1) + 2 * (i - 1) + 1;
+}
+
+/* Whether entry i is picked where one in `every` is, in turn or at random; with 0 none is. */
+static bool picked(uint32_t i, uint32_t every, bool in_turn)
+{
+    return every > 0 && (in_turn ? i % every : below(every)) == 0;
+}
+
+/* A question that the desk accepts, unless g + n is too large for a reading: a proof of n entries after reading g, of which one in
+ * `every` is the wanted counter's and one in `unsigned_every` not signed by its owner, at random or in turn. In kind 2 the last one always
+ * is the counter's and signed. */
+static void build(struct question *q, uint32_t kind, uint32_t id, uint32_t value, uint32_t g, uint32_t n, uint32_t every,
+                  uint32_t unsigned_every, bool in_turn)
+{
     uint8_t *at = q->proof;
     uint32_t running = value;
 
+    q->verdicts_len = (kind == 1 ? 2 : 1) + 2 * n;
+    memset(q->verdicts, 1, q->verdicts_len);
     at = put(at, 1, 2);
     at = put(at, kind, 2);
-    at = put(at, log + 32 * n, 4);
+    at = put(at, entry_at(kind, n + 1), 4);
     at = put(at, 24, 4);
     at = put(at, kind == 1 ? 36 : 0, 4);
-    at = put(at, log, 4);
+    at = put(at, entry_at(kind, 1), 4);
     at = put(at, n, 4);
     at = put(at, id, 4);
     at = put(at, value, 4);
@@ -85,19 +107,22 @@ static void build(struct question *q, uint32_t kind, uint32_t id, uint32_t value
         at = put_nonce(at, 200);
     }
     for (uint32_t i = 1; i <= n; i++) {
-        bool wanted = (in_turn ? i % every : below(every)) == 0 || (kind == 2 && i == n);
         bool last = kind == 2 && i == n;
+        bool wanted = picked(i, every, in_turn) || last;
+        bool by_owner = !picked(i, unsigned_every, in_turn) || last;
+        bool raises = wanted && by_owner;
         uint32_t other = below(4);
+        /* The value before where it is not judged: any, or at random the one that would be right. */
+        uint32_t unjudged = in_turn || below(2) == 0 ? below(UINT32_MAX) : running;
         at = put(at, g + i, 4);
         at = put_nonce(at, last ? 200 : (uint8_t)below(200));
         at = put(at, wanted ? id : other == 0 ? 0 : id + other, 4);
-        at = put(at, wanted ? running : other == 0 ? 0 : below(UINT32_MAX), 4);
-        if (wanted)
+        at = put(at, raises ? running : !wanted && other == 0 ? 0 : unjudged, 4);
+        q->verdicts[owner_at(kind, i)] = by_owner;
+        if (raises)
             running = g + i;
     }
     q->proof_len = (size_t)(at - q->proof);
-    q->verdicts_len = (kind == 1 ? 2 : 1) + 2 * n;
-    memset(q->verdicts, 1, q->verdicts_len);
     q->id = id;
     q->nonce_len = VMC_NONCE_LEN;
     put_nonce(q->nonce, 200);
@@ -127,7 +152,7 @@ static void damage(struct question *q)
     case 3:
     case 4:
         if (q->verdicts_len > 0)
-            q->verdicts[below((uint32_t)q->verdicts_len)] = 0;
+            q->verdicts[below((uint32_t)q->verdicts_len)] ^= 1;
         break;
     case 5:
         if (q->verdicts_len > 0)
@@ -160,12 +185,52 @@ static void print_figures(const char *name, vmc_desk_figures f)
     printf("%s %u %u %u %u %u", name, (unsigned)f.number, (unsigned)f.value, (unsigned)f.closing, (unsigned)f.place, (unsigned)f.openings);
 }
 
-/* Whether all implementations agree on all cases, every number was met, and so were openings. */
+/* Whether entry i is the wanted counter's without its owner's signature, in a proof that passes checks 1 to 6. */
+static bool is_unsigned(const struct question *q, uint32_t i)
+{
+    uint32_t kind = q->proof[3];
+    uint8_t id[4];
+
+    put(id, q->id, 4);
+    return memcmp(q->proof + entry_at(kind, i) + 24, id, sizeof id) == 0 && !q->verdicts[owner_at(kind, i)];
+}
+
+static bool unsigned_before(const struct question *q, uint32_t place)
+{
+    for (uint32_t i = 1; i < place; i++)
+        if (is_unsigned(q, i))
+            return true;
+    return false;
+}
+
+/* Cases with an unsigned entry of the wanted counter: accepted, refused by 13 behind it, and refused by 10 for nothing else than that it
+ * is the last of kind 2. */
+struct unsigned_met {
+    unsigned long accepted;
+    unsigned long behind;
+    unsigned long last;
+};
+
+static void count_unsigned(struct unsigned_met *met, const struct question *q, vmc_desk_figures figures)
+{
+    uint32_t n = (uint32_t)q->proof[22] << 8 | q->proof[23];
+
+    if (figures.number == 0 && unsigned_before(q, n + 1))
+        met->accepted++;
+    if (figures.number == 13 && unsigned_before(q, figures.place))
+        met->behind++;
+    if (figures.number == 10 && q->proof[3] == 2 && is_unsigned(q, n) &&
+        memcmp(q->proof + entry_at(2, n) + 4, q->nonce, VMC_NONCE_LEN) == 0)
+        met->last++;
+}
+
+/* Whether all implementations agree on all cases, every number was met, and so were openings and unsigned entries. */
 static bool compare(struct question *q)
 {
     static const uint32_t most_entries[] = {3, 12, 12, VMC_PROOF_MAX_ENTRIES};
     unsigned long met[NUMBERS] = {0};
     unsigned long differing = 0, with_openings = 0;
+    struct unsigned_met with_unsigned = {0};
 
     /* Bytes that are lent beyond a proof's end are zero or left from an earlier case. */
     memset(q, 0, sizeof *q);
@@ -177,7 +242,8 @@ static bool compare(struct question *q)
         uint32_t value = below(8) == 0 ? g : below(g);
         uint32_t id = 1 + below(1000);
         uint32_t every = 1 + below(3);
-        build(q, kind, id, value, g, n, every, false);
+        uint32_t unsigned_every = below(5);
+        build(q, kind, id, value, g, n, every, unsigned_every, false);
         for (uint32_t changes = below(4); changes > 0; changes--)
             damage(q);
 
@@ -187,6 +253,8 @@ static bool compare(struct question *q)
         met[figures[0].number < NUMBERS ? figures[0].number : 0]++;
         if (figures[0].openings > 0)
             with_openings++;
+        /* By a plain desk's answer: whatever the proved one says, the bytes that are looked at are there. */
+        count_unsigned(&with_unsigned, q, figures[1]);
         for (int k = 1; k < IMPLEMENTATIONS; k++) {
             if (same(figures[0], figures[k]) || ++differing > 10)
                 continue;
@@ -201,13 +269,17 @@ static bool compare(struct question *q)
     printf("%d cases compared, %lu differences. Cases by number:", CASES, differing);
     bool all_met = true;
     for (int number = 0; number < NUMBERS; number++) {
+        if (number == NOT_GIVEN)
+            continue;
         printf(" %d:%lu", number, met[number]);
         all_met = all_met && met[number] > 0;
     }
     printf("; with openings: %lu\n", with_openings);
-    all_met = all_met && with_openings > 0;
+    printf("With an unsigned entry of the wanted counter: accepted %lu, 13 behind it %lu, 10 for it as the last %lu\n", with_unsigned.accepted,
+           with_unsigned.behind, with_unsigned.last);
+    all_met = all_met && with_openings > 0 && with_unsigned.accepted > 0 && with_unsigned.behind > 0 && with_unsigned.last > 0;
     if (!all_met)
-        printf("error: a number was never met, or openings never were\n");
+        printf("error: a number was never met, or openings or an unsigned entry never were\n");
     return differing == 0 && all_met;
 }
 
@@ -261,7 +333,7 @@ static void measure_short(struct question *q)
         for (uint32_t n = kind - 1; n <= 2; n++) {
             char title[64];
             snprintf(title, sizeof title, "kind %u, entries %u", (unsigned)kind, (unsigned)n);
-            build(q, kind, 7, 100, 100, n, 1, true);
+            build(q, kind, 7, 100, 100, n, 1, 0, true);
             measure(title, q);
         }
     }
@@ -274,12 +346,14 @@ int main(void)
     if (!compare(&q))
         return 1;
     printf("Times with warm buffers: the same proof is verified again and again.\n");
-    build(&q, 1, 7, 100, 100, VMC_PROOF_MAX_ENTRIES, 1, true);
+    build(&q, 1, 7, 100, 100, VMC_PROOF_MAX_ENTRIES, 1, 0, true);
     measure("1,024 entries, all of the wanted counter", &q);
-    build(&q, 1, 7, 100, 100, VMC_PROOF_MAX_ENTRIES, 2, true);
+    build(&q, 1, 7, 100, 100, VMC_PROOF_MAX_ENTRIES, 2, 0, true);
     measure("1,024 entries, every second of another counter", &q);
-    build(&q, 1, 7, 100, 100, VMC_PROOF_MAX_ENTRIES, 64, true);
+    build(&q, 1, 7, 100, 100, VMC_PROOF_MAX_ENTRIES, 64, 0, true);
     measure("1,024 entries, every 64th of the wanted counter", &q);
+    build(&q, 1, 7, 100, 100, VMC_PROOF_MAX_ENTRIES, 1, 3, true);
+    measure("1,024 entries, all of the wanted counter, every third unsigned", &q);
     measure_short(&q);
     return 0;
 }

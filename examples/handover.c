@@ -1,7 +1,8 @@
 /*
  * A handover check at a depot: box 7 is handed over, and the sheet shows its counter's value, and how often the box was opened since the
- * confirmation, only where the desk accepts the proof. The proof is document 01's case A; the same with the owner's no at entry 1 is
- * case G. Which signatures hold is the station's library's to say: its yes and no are the verdict bytes, which are written out here.
+ * confirmation, only where the desk accepts the proof. The proof is document 01's case A. With the owner's no at entry 3 that entry is passed
+ * over, by Note 5 of document 02, and value and openings stay as entry 1 left them; with the no at entry 1 it is case G. Which signatures
+ * hold is the station's library's to say: its yes and no are the verdict bytes, which are written out here.
  */
 #include "vmc.h"
 
@@ -80,9 +81,8 @@ static const char *const refusals[] = {
     [7] = "the confirmation is for another box, or states a value above its reading",
     [8] = "the owner did not sign the confirmation",
     [9] = "the module did not certify a reading",
-    [10] = "the proof was not made for this request",
+    [10] = "the proof was not made for this request, or closes on one that the owner did not sign",
     [11] = "the clock readings have a gap",
-    [12] = "the owner did not sign an opening of this box",
     [13] = "the openings of this box do not follow on one another",
 };
 
@@ -100,7 +100,8 @@ static void hand_over(const char *title, const uint8_t *proof, size_t proof_len,
         printf("  Openings since the confirmation: %u.\n", (unsigned)answer.openings);
         return;
     }
-    printf("  Refused: %s", answer.number < sizeof refusals / sizeof refusals[0] ? refusals[answer.number] : "unknown number");
+    const char *refusal = answer.number < sizeof refusals / sizeof refusals[0] ? refusals[answer.number] : NULL;
+    printf("  Refused: %s", refusal != NULL ? refusal : "unknown number");
     if (answer.place != 0)
         printf(" (place %u)", (unsigned)answer.place);
     printf(".\n");
@@ -117,7 +118,12 @@ int main(void)
     memset(verdicts, 1, sizeof verdicts);
     hand_over("Every signature holds", proof, sizeof proof, verdicts, sizeof verdicts, 7, nonce);
 
-    /* After the confirmation's and the clock certificate's, entry 1 has the module's verdict and then the owner's. */
+    /* After the confirmation's and the clock certificate's, each entry has the module's verdict and then the owner's. */
+    verdicts[2 + 2 * 2 + 1] = 0;
+    hand_over("The owner did not sign entry 3", proof, sizeof proof, verdicts, sizeof verdicts, 7, nonce);
+    verdicts[2 + 2 * 2 + 1] = 1;
+
+    /* Now entry 1 is passed over, and entry 3 states the value that it would have made. */
     verdicts[2 + 1] = 0;
     hand_over("The owner did not sign entry 1", proof, sizeof proof, verdicts, sizeof verdicts, 7, nonce);
     verdicts[2 + 1] = 1;

@@ -1,7 +1,7 @@
 /*
  * The desk and the host for C and C++: document 01's "The desk", which verifies a validity proof of a counter, and "The host", which keeps
  * the server's log image and sets such proofs out; the openings are those of Note 1 of document 02, the image's form that of Note 2, close
- * that of Note 4. (The documents call a counter a box.)
+ * that of Note 4, and an entry that its owner did not sign is passed over by Note 5. (The documents call a counter a box.)
  *
  * To link, on x86-64 Linux, from the top of the repository:
  *
@@ -41,16 +41,19 @@ extern "C" {
  *      7  the confirmation is another counter's, or its value is above its reading
  *      8  the confirmation's verdict is no
  *      9  the module's verdict is no: at the clock certificate (place 0) or at an entry
- *     10  kind 1: the clock certificate has another nonce than the wanted one; kind 2: the last entry has another counter or nonce
+ *     10  kind 1: the clock certificate has another nonce than the wanted one; kind 2: the last entry has another counter or nonce, or
+ *         the owner's verdict is no there
  *     11  an entry's reading is not one more than the one before it, which for entry 1 is the confirmation's; or the clock
  *         certificate's is not that of the last entry, or without entries the confirmation's (place: number of entries + 1)
- *     12  the owner's verdict is no at an entry of the wanted counter
- *     13  an entry of the wanted counter does not state the running value as its value before
+ *     13  an entry of the wanted counter with the owner's yes does not state the running value as its value before
+ *
+ * No check has the number 12.
  *
  * value: the counter's value at the closing reading where accepted, else 0.
  * closing: the clock reading that the proof closes on where accepted, else 0.
- * place: the entry that is refused, counted from 1, by 9, 11, 12 and 13, with the two exceptions above; else 0.
- * openings: how often the counter was raised after the proof's own confirmation, up to the closing reading; 0 where the proof is refused.
+ * place: the entry that is refused, counted from 1, by 9, 11 and 13, with the two exceptions above; else 0.
+ * openings: how often the counter was raised, by requests that its owner signed, after the proof's own confirmation, up to the closing
+ *     reading; 0 where the proof is refused.
  */
 typedef struct vmc_desk_figures {
     uint32_t number;
@@ -67,7 +70,9 @@ typedef struct vmc_desk_figures {
  *     before the call.
  * verdicts: what the check of each signature said, one byte each, 0 no and 1 yes, in this order: the confirmation's; in kind 1 the
  *     clock certificate's; then for each entry the module's and after it the owner's. That is 2 + 2n bytes in kind 1 and 1 + 2n in
- *     kind 2, for n entries. The owner's counts only at entries of the wanted counter, but is 0 or 1 everywhere.
+ *     kind 2, for n entries. The owner's counts only at entries of the wanted counter, but is 0 or 1 everywhere. An entry of the wanted
+ *     counter with the owner's no is judged as another counter's: it does not raise the value, and its value before is free. So the no
+ *     must be as true as the yes, 1 where the owner signed the request and 0 where not: a false no hides a raise.
  * id: the number of the wanted counter, not 0.
  * nonce: the wanted nonce. Kind 1: the one that the clock was asked with; kind 2: that of the request of the last increment.
  *

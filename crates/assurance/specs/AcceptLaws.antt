@@ -25,7 +25,7 @@ use Rattle.validity.specs.declared.proof.Parsed.{Parsed}
 use Rattle.log_image.specs.Sound.{consecutive}
 use Rattle.desk.specs.declared.answer.Answer.{Answer}
 use Rattle.desk.specs.Desk.{confirmation, certificate, entry, verdictsBefore, badWanted, closesElsewhere, wrongClosing, closing, verified}
-use Rattle.assurance.specs.AcceptRows.{ones, Clean, clean-verified}
+use Rattle.assurance.specs.AcceptRows.{ones, ones-own, Clean, clean-verified}
 
 -- what a proof set out for a counter says: the counter's confirmation (v, g), and the entries after g, one for each reading, that chain
 pub record SetOut (id : CounterId) (c : Confirmation) (es : List Entry) : Type 0 where
@@ -112,7 +112,7 @@ module _ (id : CounterId) (nonce : List ℕ) (c : Confirmation) (es : List Entry
 
   -- bytes from which the confirmation and the entries read back
   back-clean : (kind : Kind) (s : List ℕ) → confirmation s ≡ c → entriesAt s (logOffset kind) (length es) ≡ es
-      → closesElsewhere (record { kind = kind; count = length es }) s id nonce ≡ false
+      → closesElsewhere (record { kind = kind; count = length es }) s (ones (verdictsBefore kind + 2 * length es)) id nonce ≡ false
       → wrongClosing (record { kind = kind; count = length es }) s ≡ false
       → Clean kind (length es) s id nonce
   back-clean kind s confirms entries ends closes =
@@ -128,7 +128,7 @@ module _ (id : CounterId) (nonce : List ℕ) (c : Confirmation) (es : List Entry
   -- and what the desk answers to them
   back-accepted : (kind : Kind) (s : List ℕ) → confirmation s ≡ c → entriesAt s (logOffset kind) (length es) ≡ es
       → parsed s ≡ Parsed.Proof (record { kind = kind; count = length es })
-      → closesElsewhere (record { kind = kind; count = length es }) s id nonce ≡ false
+      → closesElsewhere (record { kind = kind; count = length es }) s (ones (verdictsBefore kind + 2 * length es)) id nonce ≡ false
       → wrongClosing (record { kind = kind; count = length es }) s ≡ false
       → verified s (ones (verdictsBefore kind + 2 * length es)) id nonce
       ≡ Answer.Accepted (runningAfter id (fromValue (c .value)) es) (closing (record { kind = kind; count = length es }) s)
@@ -164,7 +164,8 @@ module _ (id : CounterId) (nonce : List ℕ) (c : Confirmation) (es : List Entry
       let end : entry s (logOffset Kind.Increment) (length es) ≡ last = last-back s (logOffset Kind.Increment) es front last entries ends in
       back-accepted Kind.Increment s (back .0) entries (encode-reads (increment c (length es) (logBytes es)) takes)
       (ap₂ (λ (a b : Bool). not a || b)
-      (eq-eqb (entry s (logOffset Kind.Increment) (length es) .id .0) (id .0) (ap (λ (e : Entry). e .id .0) end ∙ ap (λ (i : CounterId). i .0) own))
+      (ones-own Kind.Increment (length es) s (logOffset Kind.Increment) id (length es) some (omega arith)
+      ∙ eq-eqb (entry s (logOffset Kind.Increment) (length es) .id .0) (id .0) (ap (λ (e : Entry). e .id .0) end ∙ ap (λ (i : CounterId). i .0) own))
       (nonce-same (entry s (logOffset Kind.Increment) (length es) .nonce) nonce (wanted .long) (ap (λ (e : Entry). e .nonce) end ∙ asked)))
       refl
       ∙ ap (λ (e : Entry). Answer.Accepted (runningAfter id (fromValue (c .value)) es) (e .reading)) end

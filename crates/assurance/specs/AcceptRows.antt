@@ -2,19 +2,21 @@
 -- shows (`Accepted`). Assumes nothing.
 use Prim.Native.Nat.{ℕ, zero, suc, _+_, _-_, _*_, _≤_, _<_}
 use mathlib.Core.Path.{_≡_, refl, sym, ap, ap₂, _∙_}
-use mathlib.Core.Bool.{Bool, true, false, not, cond, _&&_, _||_, and-false}
+use mathlib.Core.Bool.{Bool, true, false, not, cond, _&&_, _||_, and-true}
 use mathlib.Core.List.{List, [], _∷_}
 use native.Mathlib.Omega.{arith}
 use lib.Dec.{eqb}
 use lib.ListN.{getD, replicate, length-replicate, getD-replicate}
 use borrow.Author.Tests.{eqb-true, eq-eqb, le-ltb}
-use Rattle.forms.specs.Chain.{follows, runningAfter, valueAfter, chains}
-use Rattle.forms.specs.ChainLaws.{chains-cons, value-cons, valueStep}
+use Rattle.forms.specs.Chain.{fromValue, stepBy, followsBy, step, follows, runningAfter, valueAfter, chains}
+use Rattle.forms.specs.ChainLaws.{running-snoc, chains-cons, value-cons, valueStep}
 use Rattle.forms.specs.Checks.{Row, firstOf}
 use Rattle.forms.specs.Entry.{entryAt, entriesAt}
 use Rattle.forms.specs.Limits.{entryLen}
+use Rattle.forms.specs.PartsLaws.{entries-snoc}
 use Rattle.forms.specs.TestsLaws.{both}
 use Rattle.forms.specs.Terms.{sameId}
+use Rattle.forms.specs.declared.running.Running.{Running}
 use Rattle.forms.specs.declared.terms.CounterId.{CounterId}
 use Rattle.validity.specs.Proof.{parsed, logOffset}
 use Rattle.validity.specs.declared.proof.Kind.{Kind}
@@ -22,7 +24,7 @@ use Rattle.validity.specs.declared.proof.Parsed.{Parsed}
 use Rattle.validity.specs.declared.proof.Proof.{Proof}
 use Rattle.log_image.specs.Sound.{consecutive}
 use Rattle.desk.specs.declared.answer.Answer.{Answer}
-use Rattle.desk.specs.Desk.{confirmation, entry, verdictsBefore, verdictCount, zeroOrOne, badWanted, badVerdicts, badConfirmation, certificateDenied, moduleDenied, closesElsewhere, wrongReading, wrongClosing, ownerDenied, breaksChain, laterChecks, accepted, judged, verified}
+use Rattle.desk.specs.Desk.{confirmation, entry, verdictsBefore, verdictCount, zeroOrOne, isOwn, runningTo, badWanted, badVerdicts, badConfirmation, certificateDenied, moduleDenied, closesElsewhere, wrongReading, wrongClosing, breaksChain, closing, laterChecks, accepted, judged, verified}
 use Rattle.desk.specs.DeskLaws.{answerOf, verified-parsed}
 use Rattle.desk.specs.Lowest.{lowest}
 use Rattle.desk.specs.LowestLaws.{Clear, lowest-none}
@@ -83,6 +85,28 @@ module-clear : (kind : Kind) (n : ℕ) → Clear (moduleDenied (ones (verdictsBe
 unfolding moduleDenied
 module-clear kind n k low high = ones-said (verdictsBefore kind + 2 * n) (verdictsBefore kind + 2 * (k - 1)) (omega arith)
 
+-- every entry that names the counter is its own
+pub ones-own : (kind : Kind) (n : ℕ) (s : List ℕ) (log : ℕ) (id : CounterId) (k : ℕ) → 1 ≤ k → k ≤ n
+    → isOwn s log (ones (verdictsBefore kind + 2 * n)) (verdictsBefore kind) id k ≡ sameId (entry s log k .id) id
+unfolding isOwn
+ones-own kind n s log id k low high =
+    ap (λ (b : Bool). sameId (entry s log k .id) id && not b)
+    (ones-said (verdictsBefore kind + 2 * n) (verdictsBefore kind + 2 * (k - 1) + 1) (omega arith))
+    ∙ and-true (sameId (entry s log k .id) id)
+
+-- so running value and count are those along all entries
+ones-running : (kind : Kind) (n : ℕ) (s : List ℕ) (log : ℕ) (id : CounterId) (value k : ℕ) → k ≤ n
+    → runningTo s log (ones (verdictsBefore kind + 2 * n)) (verdictsBefore kind) id value k ≡ runningAfter id (fromValue value) (entriesAt s log k)
+unfolding runningTo runningAfter entriesAt step
+ones-running kind n s log id value zero up-to = refl
+ones-running kind n s log id value (suc k) up-to =
+    let here : log + entryLen * (suc k - 1) ≡ log + entryLen * k = omega arith in
+    ap₂ (λ (b : Bool) (r : Running). stepBy b r (entry s log (suc k))) (ones-own kind n s log id (suc k) (omega arith) up-to)
+    (ones-running kind n s log id value k (omega arith))
+    ∙ ap (λ (j : ℕ). step id (runningAfter id (fromValue value) (entriesAt s log k)) (entryAt s j)) here
+    ∙ sym (running-snoc id (fromValue value) (entriesAt s log k) (entryAt s (log + entryLen * k)))
+    ∙ ap (runningAfter id (fromValue value)) (sym (entries-snoc s log k))
+
 -- ---- entries, by their place
 
 -- of consecutive entries, the one behind k others has the reading g + k + 1
@@ -132,7 +156,7 @@ pub record Clean (kind : Kind) (n : ℕ) (s : List ℕ) (id : CounterId) (nonce 
   pub own : confirmation s .id ≡ id
   pub low : confirmation s .value ≤ confirmation s .reading .0
   -- 10
-  pub ends : closesElsewhere (record { kind = kind; count = n }) s id nonce ≡ false
+  pub ends : closesElsewhere (record { kind = kind; count = n }) s (ones (verdictsBefore kind + 2 * n)) id nonce ≡ false
   -- 11
   pub steps : consecutive (confirmation s .reading .0) (entriesAt s (logOffset kind) n) ≡ true
   pub closes : wrongClosing (record { kind = kind; count = n }) s ≡ false
@@ -156,29 +180,28 @@ module _ (kind : Kind) (n : ℕ) (s : List ℕ) (id : CounterId) (nonce : List �
       (entry-reading s (logOffset kind) n (confirmation s .reading .0) (clean .steps) (k - 1) (omega arith)
       ∙ ap (λ (j : ℕ). confirmation s .reading .0 + j) place))
 
-  -- 12
-  owner-clear : Clear (ownerDenied s (logOffset kind) (ones (verdictsBefore kind + 2 * n)) (verdictsBefore kind) id) n
-  unfolding ownerDenied
-  owner-clear k low high =
-      ap (λ (b : Bool). sameId (entry s (logOffset kind) k .id) id && b)
-      (ones-said (verdictsBefore kind + 2 * n) (verdictsBefore kind + 2 * (k - 1) + 1) (omega arith))
-      ∙ and-false (sameId (entry s (logOffset kind) k .id) id)
-
   -- 13
-  chain-clear : Clear (breaksChain s (logOffset kind) id (confirmation s .value)) n
-  unfolding breaksChain
+  chain-clear : Clear (breaksChain s (logOffset kind) (ones (verdictsBefore kind + 2 * n)) (verdictsBefore kind) id (confirmation s .value)) n
+  unfolding breaksChain valueAfter follows
   chain-clear k low high =
-      ap not (entry-follows s (logOffset kind) n id (confirmation s .value) (clean .chain) (k - 1) (omega arith))
+      ap₂ (λ (b : Bool) (r : Running). not (followsBy b (r .value) (entry s (logOffset kind) k))) (ones-own kind n s (logOffset kind) id k low high)
+      (ones-running kind n s (logOffset kind) id (confirmation s .value) (k - 1) (omega arith))
+      ∙ ap not (entry-follows s (logOffset kind) n id (confirmation s .value) (clean .chain) (k - 1) (omega arith))
+
+  -- what is shown: running value and count along all entries, and the closing reading
+  abbrev pub shownOf : Answer
+  shownOf =
+      Answer.Accepted (runningAfter id (fromValue (confirmation s .value)) (entriesAt s (logOffset kind) n)) (closing (record { kind = kind; count = n }) s)
 
   -- checks 6 to 13 pass, and the answer is the one behind them
-  pub clean-accepted : judged (record { kind = kind; count = n }) s (ones (verdictsBefore kind + 2 * n)) id nonce ≡ accepted (record { kind = kind; count = n }) s id
+  pub clean-accepted : judged (record { kind = kind; count = n }) s (ones (verdictsBefore kind + 2 * n)) id nonce ≡ shownOf
   unfolding judged
   clean-accepted =
       let p : Proof = record { kind = kind; count = n } in
       let log : ℕ = logOffset kind in
       let before : ℕ = verdictsBefore kind in
       let verdicts : List ℕ = ones (before + 2 * n) in
-      passed-over (laterChecks p s verdicts id nonce) (accepted p s id)
+      passed-over (laterChecks p s verdicts id nonce) (accepted p s verdicts id)
       (ones-right p
       then confirmation-clean
       then ones-said (before + 2 * n) 0 (some-before kind n)
@@ -187,13 +210,13 @@ module _ (kind : Kind) (n : ℕ) (s : List ℕ) (id : CounterId) (nonce : List �
       then clean .ends
       then clear-passed (wrongReading s log (confirmation s .reading)) n readings-clear
       then clean .closes
-      then clear-passed (ownerDenied s log verdicts before id) n owner-clear
-      then clear-passed (breaksChain s log id (confirmation s .value)) n chain-clear
+      then clear-passed (breaksChain s log verdicts before id (confirmation s .value)) n chain-clear
       then end)
+      ∙ ap (λ (r : Running). Answer.Accepted r (closing p s)) (ones-running kind n s log id (confirmation s .value) n (omega arith))
 
   -- the desk accepts such bytes
   pub clean-verified : badWanted id nonce ≡ false → parsed s ≡ Parsed.Proof (record { kind = kind; count = n })
-      → verified s (ones (verdictsBefore kind + 2 * n)) id nonce ≡ accepted (record { kind = kind; count = n }) s id
+      → verified s (ones (verdictsBefore kind + 2 * n)) id nonce ≡ shownOf
   clean-verified wanted reads =
       let judge : Proof → Answer = λ p. judged p s (ones (verdictsBefore kind + 2 * n)) id nonce in
       verified-parsed s (ones (verdictsBefore kind + 2 * n)) id nonce

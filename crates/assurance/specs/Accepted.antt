@@ -1,12 +1,11 @@
 -- What an accepted call has shown: number 0 means that no row of the desk's table held, and here is what that says of the proof, of its
 -- verdicts, and of the value, the openings and the closing reading. Assumes nothing.
-use Prim.Native.Nat.{ℕ, _+_, _≤_}
+use Prim.Native.Nat.{ℕ, _+_, _-_, _≤_}
 use mathlib.Core.Path.{_≡_, refl, sym, ap, _∙_}
 use mathlib.Core.Bool.{Bool, true, false, cond}
 use lib.ListN.{length, getD}
-use Rattle.forms.specs.Chain.{fromValue, follows, runningAfter}
+use Rattle.forms.specs.Chain.{followsBy}
 use Rattle.forms.specs.declared.running.Running.{Running}
-use Rattle.forms.specs.Entry.{entriesAt}
 use Rattle.forms.specs.Limits.{nonceLen}
 use Rattle.forms.specs.Terms.{globalClock}
 use Rattle.validity.specs.Proof.{shapeAt, logOffset, parsed, readNumber}
@@ -16,15 +15,22 @@ use Rattle.validity.specs.declared.proof.Parsed.{Parsed}
 use Rattle.validity.specs.declared.proof.Proof.{Proof}
 use Rattle.desk.specs.Answer.{figures}
 use Rattle.desk.specs.declared.answer.Answer.{Answer}
-use Rattle.desk.specs.Desk.{confirmation, certificate, verdictsBefore, verdictCount, moduleVerdict, ownerVerdict, badWanted, moduleDenied, wrongReading, ownerDenied, valueBefore, breaksChain, laterChecks, accepted, judged, verified}
+use Rattle.desk.specs.Desk.{confirmation, certificate, verdictsBefore, verdictCount, moduleVerdict, ownerVerdict, isOwn, runningTo, badWanted, moduleDenied, wrongReading, breaksChain, laterChecks, accepted, judged, verified}
 use Rattle.desk.specs.DeskLaws.{answerOf, verified-parsed}
 use Rattle.desk.specs.LowestLaws.{lowest-clear}
 use Rattle.assurance.specs.DeskList.{Call, shown, Accepted, closes, kindOf, entryOf}
-use Rattle.assurance.specs.Rows.{test, refusal-passed, rows-passed, answer-behind, none-lowest, wanted-some, verdicts-right, confirmation-right, said-yes, certificate-said, module-said, certificate-closes, last-closes, last-stands, readings-right, closing-right, closing-read, owner-said, chain-right}
+use Rattle.assurance.specs.Rows.{test, refusal-passed, rows-passed, answer-behind, none-lowest, wanted-some, verdicts-right, confirmation-right, said-yes, certificate-said, module-said, certificate-closes, last-closes, last-stands, readings-right, closing-right, closing-read, chain-right}
 
 -- how many entries the proof of a call has
 abbrev pub countOf : Call → ℕ
 countOf c = shapeAt (c .proof) .count
+
+-- whether an entry is the wanted counter's own, and running value and count behind the first k, in the proof of a call
+abbrev pub ownOf : Call → ℕ → Bool
+ownOf c k = isOwn (c .proof) (logOffset (kindOf c)) (c .verdicts) (verdictsBefore (kindOf c)) (c .id) k
+
+abbrev pub runningIn : Call → ℕ → Running
+runningIn c k = runningTo (c .proof) (logOffset (kindOf c)) (c .verdicts) (verdictsBefore (kindOf c)) (c .id) (confirmation (c .proof) .value) k
 
 -- value and openings that a call shows
 abbrev pub runningOf : Call → Running
@@ -52,17 +58,15 @@ pub record Passed (c : Call) : Type 0 where
   -- 10
   pub certificate-nonce : kindOf c ≡ Kind.Read → certificate (c .proof) .nonce ≡ c .nonce
   pub last-own : kindOf c ≡ Kind.Increment → entryOf c (countOf c) .id ≡ c .id
+  pub last-yes : kindOf c ≡ Kind.Increment → ownerVerdict (c .verdicts) (verdictsBefore (kindOf c)) (countOf c) ≡ 1
   pub last-nonce : kindOf c ≡ Kind.Increment → entryOf c (countOf c) .nonce ≡ c .nonce
   -- 11
   pub readings : (k : ℕ) → 1 ≤ k → k ≤ countOf c → entryOf c k .reading ≡ globalClock (confirmation (c .proof) .reading .0 + k)
   pub certificate-reading : kindOf c ≡ Kind.Read → certificate (c .proof) .reading ≡ closes c
-  -- 12
-  pub owner-yes : (k : ℕ) → 1 ≤ k → k ≤ countOf c → entryOf c k .id ≡ c .id → ownerVerdict (c .verdicts) (verdictsBefore (kindOf c)) k ≡ 1
   -- 13
-  pub chained : (k : ℕ) → 1 ≤ k → k ≤ countOf c
-      → follows (c .id) (valueBefore (c .proof) (logOffset (kindOf c)) (c .id) (confirmation (c .proof) .value) k) (entryOf c k) ≡ true
+  pub chained : (k : ℕ) → 1 ≤ k → k ≤ countOf c → followsBy (ownOf c k) (runningIn c (k - 1) .value) (entryOf c k) ≡ true
   -- what is shown
-  pub running : runningOf c ≡ runningAfter (c .id) (fromValue (confirmation (c .proof) .value)) (entriesAt (c .proof) (logOffset (kindOf c)) (countOf c))
+  pub running : runningOf c ≡ runningIn c (countOf c)
   pub closing : closes c ≡ globalClock (confirmation (c .proof) .reading .0 + countOf c)
 
 -- an answer with number 0 was given to bytes that read as a proof
@@ -102,15 +106,15 @@ module _ (c : Call) (is-accepted : Accepted c) where
   later-passed : (k : ℕ) → test (laterChecks (shapeAt (c .proof)) (c .proof) (c .verdicts) (c .id) (c .nonce)) k ≡ false
   unfolding judged
   later-passed =
-      rows-passed (laterChecks (shapeAt (c .proof)) (c .proof) (c .verdicts) (c .id) (c .nonce)) (accepted (shapeAt (c .proof)) (c .proof) (c .id)) refl
+      rows-passed (laterChecks (shapeAt (c .proof)) (c .proof) (c .verdicts) (c .id) (c .nonce)) (accepted (shapeAt (c .proof)) (c .proof) (c .verdicts) (c .id)) refl
       (ap (λ (a : Answer). figures a .number) (sym (begun c is-accepted .answer)) ∙ is-accepted)
 
   -- so the answer is the one behind the table
-  answered : verified (c .proof) (c .verdicts) (c .id) (c .nonce) ≡ accepted (shapeAt (c .proof)) (c .proof) (c .id)
+  answered : verified (c .proof) (c .verdicts) (c .id) (c .nonce) ≡ accepted (shapeAt (c .proof)) (c .proof) (c .verdicts) (c .id)
   unfolding judged
   answered =
       begun c is-accepted .answer
-      ∙ answer-behind (laterChecks (shapeAt (c .proof)) (c .proof) (c .verdicts) (c .id) (c .nonce)) (accepted (shapeAt (c .proof)) (c .proof) (c .id))
+      ∙ answer-behind (laterChecks (shapeAt (c .proof)) (c .proof) (c .verdicts) (c .id) (c .nonce)) (accepted (shapeAt (c .proof)) (c .proof) (c .verdicts) (c .id))
       later-passed
 
   -- number 0 means that every row was passed
@@ -145,18 +149,17 @@ module _ (c : Call) (is-accepted : Accepted c) where
         module-yes = λ k one-up up-to.
             said-yes (moduleVerdict (c .verdicts) before k) (verdicts .1 _)
             (module-said (c .verdicts) before n (lowest-clear (moduleDenied (c .verdicts) before) n (none-lowest _ (later-passed 4))) k one-up up-to);
-        certificate-nonce = certificate-closes (kindOf c) n s (c .id) (c .nonce) (wanted .1) elsewhere;
-        last-own = λ increment. last-closes (kindOf c) n s (c .id) (c .nonce) (wanted .1) elsewhere increment .0;
-        last-nonce = λ increment. last-closes (kindOf c) n s (c .id) (c .nonce) (wanted .1) elsewhere increment .1;
+        certificate-nonce = certificate-closes (kindOf c) n s (c .verdicts) (c .id) (c .nonce) (wanted .1) elsewhere;
+        last-own = λ increment. last-closes (kindOf c) n s (c .verdicts) (c .id) (c .nonce) (wanted .1) elsewhere increment .0 .0;
+        last-yes = λ increment.
+            said-yes (ownerVerdict (c .verdicts) before n) (verdicts .1 _)
+            (last-closes (kindOf c) n s (c .verdicts) (c .id) (c .nonce) (wanted .1) elsewhere increment .0 .1);
+        last-nonce = λ increment. last-closes (kindOf c) n s (c .verdicts) (c .id) (c .nonce) (wanted .1) elsewhere increment .1;
         readings = readings;
         certificate-reading = λ read. sym (closed ∙ closing-read (kindOf c) n s read);
-        owner-yes = λ k one-up up-to own.
-            said-yes (ownerVerdict (c .verdicts) before k) (verdicts .1 _)
-            (owner-said s log (c .verdicts) before (c .id) n
-            (lowest-clear (ownerDenied s log (c .verdicts) before (c .id)) n (none-lowest _ (later-passed 8))) k one-up up-to own);
         chained =
-            chain-right s log (c .id) (confirmation s .value) n
-            (lowest-clear (breaksChain s log (c .id) (confirmation s .value)) n (none-lowest _ (later-passed 9)));
+            chain-right s log (c .verdicts) before (c .id) (confirmation s .value) n
+            (lowest-clear (breaksChain s log (c .verdicts) before (c .id) (confirmation s .value)) n (none-lowest _ (later-passed 8)));
         running = ap (λ (a : Answer). record { value = figures a .value; openings = figures a .openings }) answered;
         closing = closed ∙ ends;
       }

@@ -1,5 +1,6 @@
--- An example of the desk's list, with the calls in it: clock reads, a tick, requests of two counters of which one is unsigned, four accepted
--- calls, of which the second goes on from the first, and a refused one. DeskWitness.antt says what holds of it. Assumes nothing.
+-- An example of the desk's list, with the calls in it: clock reads, a tick, requests for two counters of which one is a stranger's, four accepted
+-- calls, of which the second goes on from the first and the first and the third have the stranger's entry in them, and a refused one.
+-- DeskWitness.antt says what holds of it. Assumes nothing.
 use Prim.Native.Nat.{ℕ}
 use mathlib.Core.Bool.{not}
 use mathlib.Core.List.{List, [], _∷_}
@@ -52,27 +53,27 @@ entryFor t b id before = record { reading = globalClock t; nonce = nonce b; id =
 
 -- ---- the calls
 
--- a kind 1 proof over readings 101 to 103: the request of counter 7, the unsigned one of counter 9, and the tick
+-- a kind 1 proof over readings 101 to 103: the request for counter 7, the stranger's for the same counter, which the owner did not sign, and the tick
 unfoldable pub by-read : Call
 by-read =
     record {
       proof =
           encode
           (Fields.read opening (record { reading = globalClock 103; nonce = nonce 5 }) 3
-          (logBytes (entryFor 101 1 seven 100 ∷ entryFor 102 2 nine 100 ∷ entryFor 103 3 (counterId 0) 0 ∷ [])));
+          (logBytes (entryFor 101 1 seven 100 ∷ entryFor 102 2 seven 55 ∷ entryFor 103 3 (counterId 0) 0 ∷ [])));
       verdicts = 1 ∷ 1 ∷ 1 ∷ 1 ∷ 1 ∷ 0 ∷ 1 ∷ 0 ∷ [];
       id = seven;
       nonce = nonce 5;
     }
 
--- the same with the request of counter 7 left out, and yes to everything, the unsigned request too
+-- the same with the request for counter 7 left out, and yes to everything, the stranger's request too
 unfoldable pub left-out : Call
 left-out =
     record {
       proof =
           encode
           (Fields.read opening (record { reading = globalClock 103; nonce = nonce 5 }) 2
-          (logBytes (entryFor 102 2 nine 100 ∷ entryFor 103 3 (counterId 0) 0 ∷ [])));
+          (logBytes (entryFor 102 2 seven 55 ∷ entryFor 103 3 (counterId 0) 0 ∷ [])));
       verdicts = 1 ∷ 1 ∷ 1 ∷ 1 ∷ 1 ∷ 1 ∷ [];
       id = seven;
       nonce = nonce 5;
@@ -88,7 +89,7 @@ by-increment =
       nonce = nonce 4;
     }
 
--- a kind 1 proof from the opening on, over readings 101 to 105: both raises of counter 7
+-- a kind 1 proof from the opening on, over readings 101 to 105: both raises of counter 7, with the stranger's request between them
 unfoldable pub since-opening : Call
 since-opening =
     record {
@@ -96,7 +97,7 @@ since-opening =
           encode
           (Fields.read opening (record { reading = globalClock 105; nonce = nonce 7 }) 5
           (logBytes
-          (entryFor 101 1 seven 100 ∷ entryFor 102 2 nine 100 ∷ entryFor 103 3 (counterId 0) 0 ∷ entryFor 104 4 seven 101 ∷ entryFor 105 6 nine 100 ∷ [])));
+          (entryFor 101 1 seven 100 ∷ entryFor 102 2 seven 55 ∷ entryFor 103 3 (counterId 0) 0 ∷ entryFor 104 4 seven 101 ∷ entryFor 105 6 nine 100 ∷ [])));
       verdicts = 1 ∷ 1 ∷ 1 ∷ 1 ∷ 1 ∷ 0 ∷ 1 ∷ 0 ∷ 1 ∷ 1 ∷ 1 ∷ 0 ∷ [];
       id = seven;
       nonce = nonce 7;
@@ -120,7 +121,7 @@ items =
     confirmed opening
     ∷ confirmed (record { id = nine; value = 100; reading = start })
     ∷ event (increment (Carried.Request seven 100) (nonce 1))
-    ∷ event (increment (Carried.Request nine 100) (nonce 2))
+    ∷ event (increment (Carried.Request seven 55) (nonce 2))
     ∷ event (increment Carried.Tick (nonce 3))
     ∷ event (clockRead (nonce 5))
     ∷ call by-read

@@ -2,7 +2,7 @@
 -- its own. Assumes nothing.
 use Prim.Native.Nat.{ℕ, _≤_, _<_}
 use mathlib.Core.Path.{_≡_}
-use mathlib.Core.Bool.{true}
+use mathlib.Core.Bool.{true, false}
 use mathlib.Core.List.{List, [], _∷_}
 use mathlib.Core.Option.{some}
 use lib.ListN.{getD, take, getElem?}
@@ -81,8 +81,9 @@ Shows (made (Carried.Request id before) nonce) e = (id ≡ e .id) × (before ≡
 Shows (made Carried.Tick nonce) e = (e .id .0 ≡ 0) × (e .before ≡ 0) × (nonce ≡ e .nonce)
 Shows unmade e = ⊥
 
--- the verdicts of a call at place i that count, where they are yes. "A verdict speaks of what stands before its call". An owner's verdict
--- counts in entries of the wanted counter alone; in an accepted proof none of these is no.
+-- the verdicts of a call at place i that count. "A verdict speaks of what stands before its call". Of the confirmation, the certificate and the
+-- module a no refuses the proof, so their yes is supposed true. An owner's verdict counts in entries of the wanted counter alone, where no passes the
+-- entry over: it is supposed true both ways.
 pub record Truth (first : GlobalClock) (signed : Signatures) (l : List Item) (i : ℕ) (c : Call) : Type 0 where
   -- the owner's on the confirmation: "a confirmation is signed when it stands there"
   pub confirmation-yes : getD (c .verdicts) 0 0 ≡ 1 → (j : ℕ) × (j < i) × At l j (confirmed (confirmation (c .proof)))
@@ -92,9 +93,11 @@ pub record Truth (first : GlobalClock) (signed : Signatures) (l : List Item) (i 
   -- the module's on entry k: the history has that increment with all its fields
   pub module-yes : (k : ℕ) → 1 ≤ k → k ≤ shapeAt (c .proof) .count → moduleVerdict (c .verdicts) (verdictsBefore (kindOf c)) k ≡ 1
       → Shows (incrementAt first (history (take i l)) (entryOf c k .reading)) (entryOf c k)
-  -- the owner's on entry k of the wanted counter: its request is signed
+  -- the owner's on entry k of the wanted counter: its request is signed, or it is not
   pub owner-yes : (k : ℕ) → 1 ≤ k → k ≤ shapeAt (c .proof) .count → entryOf c k .id ≡ c .id
       → ownerVerdict (c .verdicts) (verdictsBefore (kindOf c)) k ≡ 1 → signed (requestOf (entryOf c k)) ≡ true
+  pub owner-no : (k : ℕ) → 1 ≤ k → k ≤ shapeAt (c .proof) .count → entryOf c k .id ≡ c .id
+      → ownerVerdict (c .verdicts) (verdictsBefore (kindOf c)) k ≡ 0 → signed (requestOf (entryOf c k)) ≡ false
 
 -- ---- suppositions
 

@@ -18,11 +18,11 @@ use Rattle.history.specs.OpeningsLaws.{running-walk}
 use Rattle.history.specs.Value.{Signatures, counts, valueAt}
 use Rattle.history.specs.ValueLaws.{valueAt-opened, valueAt-walks-on}
 use Rattle.history.specs.Walk.{pass, walk}
-use Rattle.desk.specs.Desk.{confirmation}
+use Rattle.desk.specs.Desk.{confirmation, verdictsBefore}
 use Rattle.assurance.specs.Accepted.{Passed, countOf, runningOf, accepted-passed}
 use Rattle.assurance.specs.DeskList.{Call, Item, confirmed, call, At, history, shown, Accepted, closes, kindOf, Truth, Unopened, Opening, MadeFrom, Supposed, Sound}
 use Rattle.assurance.specs.EntryCounts.{entry-counts}
-use Rattle.assurance.specs.EntryWalk.{Placed, placed-walk}
+use Rattle.assurance.specs.EntryWalk.{placed-walk}
 use Rattle.assurance.specs.ListLaws.{Opened, opened-or-not}
 
 -- a value is the one that the history gives a counter at a reading, counted from its opening
@@ -56,12 +56,11 @@ module _ (first : GlobalClock) (signed : Signatures) (l : List Item) where
       let n = countOf c in
       let start = confirmation s .reading in
       let counting = counts signed (c .id) first (history l) in
-      let placed : (k : ℕ) → 1 ≤ k → k ≤ n → Placed counting (c .id) s (logOffset (kindOf c)) (start .0) k = λ k low high. (
+      passed .running
+      ∙ placed-walk counting s (logOffset (kindOf c)) (c .verdicts) (verdictsBefore (kindOf c)) (c .id) (confirmation s .value) (start .0) n (λ k low high. (
         passed .readings k low high,
         ap counting (sym (passed .readings k low high)) ∙ entry-counts first signed l i c passed truth k low high,
-      ) in
-      passed .running
-      ∙ placed-walk counting (c .id) s (logOffset (kindOf c)) (fromValue (confirmation s .value)) (start .0) n placed
+      ))
       ∙ running-walk counting (fromValue (confirmation s .value)) start n
 
   -- the openings are the history's, from the proof's own confirmation up to the reading that it closes on

@@ -2,7 +2,7 @@
 -- calls there, in figures. All by computing. Assumes nothing.
 use Prim.Native.Nat.{ℕ, zero, suc, _≤_, _<_}
 use mathlib.Core.Path.{_≡_, refl, sym, ap, subst, _∙_}
-use mathlib.Core.Bool.{true, false}
+use mathlib.Core.Bool.{false, not}
 use mathlib.Core.List.{List, [], _∷_}
 use lib.Dec.{eqb, lit<}
 use lib.ListN.{getD, take}
@@ -11,9 +11,8 @@ use native.Mathlib.Omega.{arith}
 use borrow.Author.Tests.{eqb-false}
 use Rattle.forms.specs.Bytes.{same, window}
 use Rattle.forms.specs.Certificate.{certificateAt, certificateBytes}
-use Rattle.forms.specs.Chain.{step, follows, runningAfter, valueAfter}
 use Rattle.forms.specs.Confirmation.{confirmationAt, confirmationBytes}
-use Rattle.forms.specs.Entry.{entryAt, entriesAt, entryBytes, logBytes}
+use Rattle.forms.specs.Entry.{entryAt, entryBytes, logBytes}
 use Rattle.forms.specs.Event.{increment, clockRead}
 use Rattle.forms.specs.Terms.{counterId, globalClock}
 use Rattle.forms.specs.declared.confirmation.Confirmation.{Confirmation}
@@ -24,10 +23,10 @@ use Rattle.history.specs.History.{increments, clockAfter, incrementAt}
 use Rattle.history.specs.Nonce.{New}
 use Rattle.history.specs.Openings.{numberOf, openingsBetween}
 use Rattle.history.specs.Value.{counts, valueAt}
-use Rattle.desk.specs.Desk.{confirmation, zeroOrOne, badWanted, badVerdicts, badConfirmation, certificateDenied, moduleDenied, closesElsewhere, wrongReading, wrongClosing, ownerDenied, breaksChain, closing, verified}
+use Rattle.desk.specs.Desk.{confirmation, zeroOrOne, isNo, verdictsBefore, ownerVerdict, isOwn, runningTo, badWanted, badVerdicts, badConfirmation, certificateDenied, moduleDenied, closesElsewhere, wrongReading, wrongClosing, breaksChain, closing, verified}
 use Rattle.desk.specs.Lowest.{lowestFrom}
 use Rattle.assurance.specs.DeskExample.{nonce, seven, nine, start, signed, opening, later, entryFor, by-read, left-out, by-increment, since-opening, unraised, items}
-use Rattle.assurance.specs.DeskList.{Call, Item, event, confirmed, call, At, history, shown, Accepted, closes, entryOf, requestOf, Shows, Truth, Unopened, Opening, MadeFrom, Supposed}
+use Rattle.assurance.specs.DeskList.{Call, Item, event, confirmed, call, At, history, shown, Accepted, closes, kindOf, entryOf, requestOf, Shows, Truth, Unopened, Opening, MadeFrom, Supposed}
 use Rattle.assurance.specs.DeskProof.{desk-claim}
 use Rattle.assurance.specs.ListLaws.{opening-once}
 
@@ -39,15 +38,15 @@ unfolding nonce seven nine start signed opening later entryFor by-read left-out 
 the-list = tt
 
 the-forms : Unit {0}
-unfolding same window headerOf headerBytes encode confirmationAt confirmationBytes certificateAt certificateBytes entryAt entriesAt entryBytes logBytes
+unfolding same window headerOf headerBytes encode confirmationAt confirmationBytes certificateAt certificateBytes entryAt entryBytes logBytes
 the-forms = tt
 
 the-desk : Unit {0}
-unfolding step follows runningAfter valueAfter zeroOrOne badWanted badVerdicts badConfirmation certificateDenied moduleDenied closesElsewhere wrongReading
+unfolding zeroOrOne isOwn runningTo badWanted badVerdicts badConfirmation certificateDenied moduleDenied closesElsewhere wrongReading
 the-desk = tt
 
 the-table : Unit {0}
-unfolding wrongClosing ownerDenied breaksChain closing verified lowestFrom
+unfolding wrongClosing breaksChain closing verified lowestFrom
 the-table = tt
 
 -- all of it
@@ -57,7 +56,7 @@ computed = tt
 
 -- ---- what the desk answers
 
--- the first call is accepted
+-- the first call is accepted, though its second entry is counter 7's and unsigned
 pub by-read-shows : shown by-read ≡ record { number = 0; value = 101; closing = 103; place = 0; openings = 1 }
 unfolding computed
 by-read-shows = refl
@@ -118,11 +117,20 @@ other-id m n other same = absurd (eqb-false m n other (ap (λ (x : CounterId). x
 abbrev ModuleTrue : ℕ → Call → ℕ → Type 0
 ModuleTrue i c k = Shows (incrementAt start (history (take i items)) (entryOf c k .reading)) (entryOf c k)
 
--- entry k is signed, if it is the wanted counter's
+-- the owner's verdict on entry k says whether it is signed, if it is the wanted counter's
 abbrev OwnerTrue : Call → ℕ → Type 0
-OwnerTrue c k = entryOf c k .id ≡ c .id → signed (requestOf (entryOf c k)) ≡ true
+OwnerTrue c k = entryOf c k .id ≡ c .id → signed (requestOf (entryOf c k)) ≡ not (isNo (ownerVerdict (c .verdicts) (verdictsBefore (kindOf c)) k))
 
--- the verdicts of the first call are true
+-- a verdict that is known
+owner-says : (c : Call) (k verdict : ℕ) → OwnerTrue c k → entryOf c k .id ≡ c .id → ownerVerdict (c .verdicts) (verdictsBefore (kindOf c)) k ≡ verdict
+    → signed (requestOf (entryOf c k)) ≡ not (isNo verdict)
+owner-says c k verdict says own is = says own ∙ ap (λ (v : ℕ). not (isNo v)) is
+
+-- the verdicts of the first call are true, the no on entry 2 too
+by-read-owner : (k : ℕ) → 1 ≤ k → k ≤ 3 → OwnerTrue by-read k
+unfolding computed
+by-read-owner = up-to-at (OwnerTrue by-read) 3 (((tt, λ same. refl), λ same. refl), other-id 0 7 refl)
+
 by-read-true : Truth start signed items 6 by-read
 unfolding computed
 by-read-true =
@@ -131,7 +139,7 @@ by-read-true =
       certificate-yes = λ read is-yes. record {
         earlier =
             increment (Carried.Request seven 100) (nonce 1)
-            ∷ increment (Carried.Request nine 100) (nonce 2)
+            ∷ increment (Carried.Request seven 55) (nonce 2)
             ∷ increment Carried.Tick (nonce 3)
             ∷ [];
         later = [];
@@ -140,11 +148,15 @@ by-read-true =
       };
       module-yes = λ k low high is-yes.
           up-to-at (ModuleTrue 6 by-read) 3 (((tt, (refl, refl, refl)), (refl, refl, refl)), (refl, refl, refl)) k low high;
-      owner-yes = λ k low high own is-yes.
-          up-to-at (OwnerTrue by-read) 3 (((tt, λ same. refl), other-id 9 7 refl), other-id 0 7 refl) k low high own;
+      owner-yes = λ k low high. owner-says by-read k 1 (by-read-owner k low high);
+      owner-no = λ k low high. owner-says by-read k 0 (by-read-owner k low high);
     }
 
 -- and those of the third
+by-increment-owner : (k : ℕ) → 1 ≤ k → k ≤ 1 → OwnerTrue by-increment k
+unfolding computed
+by-increment-owner = up-to-at (OwnerTrue by-increment) 1 (tt, λ same. refl)
+
 by-increment-true : Truth start signed items 10 by-increment
 unfolding computed
 by-increment-true =
@@ -152,10 +164,15 @@ by-increment-true =
       confirmation-yes = λ is-yes. (8, lit< tt, refl);
       certificate-yes = λ read is-yes. absurd (let z : _≡_ {A = ℕ} 0 1 = cc in omega arith);
       module-yes = λ k low high is-yes. up-to-at (ModuleTrue 10 by-increment) 1 (tt, (refl, refl, refl)) k low high;
-      owner-yes = λ k low high own is-yes. up-to-at (OwnerTrue by-increment) 1 (tt, λ same. refl) k low high own;
+      owner-yes = λ k low high. owner-says by-increment k 1 (by-increment-owner k low high);
+      owner-no = λ k low high. owner-says by-increment k 0 (by-increment-owner k low high);
     }
 
 -- and those of the last two
+since-opening-owner : (k : ℕ) → 1 ≤ k → k ≤ 5 → OwnerTrue since-opening k
+unfolding computed
+since-opening-owner = up-to-at (OwnerTrue since-opening) 5 (((((tt, λ same. refl), λ same. refl), other-id 0 7 refl), λ same. refl), other-id 9 7 refl)
+
 since-opening-true : Truth start signed items 13 since-opening
 unfolding computed
 since-opening-true =
@@ -164,7 +181,7 @@ since-opening-true =
       certificate-yes = λ read is-yes. record {
         earlier =
             increment (Carried.Request seven 100) (nonce 1)
-            ∷ increment (Carried.Request nine 100) (nonce 2)
+            ∷ increment (Carried.Request seven 55) (nonce 2)
             ∷ increment Carried.Tick (nonce 3)
             ∷ clockRead (nonce 5)
             ∷ increment (Carried.Request seven 101) (nonce 4)
@@ -177,9 +194,8 @@ since-opening-true =
       module-yes = λ k low high is-yes.
           up-to-at (ModuleTrue 13 since-opening) 5
           (((((tt, (refl, refl, refl)), (refl, refl, refl)), (refl, refl, refl)), (refl, refl, refl)), (refl, refl, refl)) k low high;
-      owner-yes = λ k low high own is-yes.
-          up-to-at (OwnerTrue since-opening) 5
-          (((((tt, λ same. refl), other-id 9 7 refl), other-id 0 7 refl), λ same. refl), other-id 9 7 refl) k low high own;
+      owner-yes = λ k low high. owner-says since-opening k 1 (since-opening-owner k low high);
+      owner-no = λ k low high. owner-says since-opening k 0 (since-opening-owner k low high);
     }
 
 unraised-true : Truth start signed items 14 unraised
@@ -190,7 +206,7 @@ unraised-true =
       certificate-yes = λ read is-yes. record {
         earlier =
             increment (Carried.Request seven 100) (nonce 1)
-            ∷ increment (Carried.Request nine 100) (nonce 2)
+            ∷ increment (Carried.Request seven 55) (nonce 2)
             ∷ increment Carried.Tick (nonce 3)
             ∷ [];
         later = increment (Carried.Request seven 101) (nonce 4) ∷ increment (Carried.Request nine 100) (nonce 6) ∷ clockRead (nonce 7) ∷ [];
@@ -198,7 +214,8 @@ unraised-true =
         reached = refl;
       };
       module-yes = λ k low high is-yes. up-to-at (ModuleTrue 14 unraised) 0 tt k low high;
-      owner-yes = λ k low high own is-yes. up-to-at (OwnerTrue unraised) 0 tt k low high own;
+      owner-yes = λ k low high. owner-says unraised k 1 (up-to-at (OwnerTrue unraised) 0 tt k low high);
+      owner-no = λ k low high. owner-says unraised k 0 (up-to-at (OwnerTrue unraised) 0 tt k low high);
     }
 
 -- ---- the suppositions
@@ -293,7 +310,8 @@ shows-value i c stands own accepted =
     ∙ ap (λ (k : Confirmation). valueAt signed (c .id) start (history items) (k .reading) (closes c)) same
     ∙ ap (λ (id : CounterId). valueAt signed id start (history items) start (closes c)) own
 
--- by the claim, the history's value of counter 7 at reading 103 is the 101 that the first accepted call shows
+-- by the claim, the history's value of counter 7 at reading 103 is the 101 that the first accepted call shows: the stranger's request, by which the
+-- clock came to 102, counts nothing
 pub value-at-103 : valueAt signed seven start (history items) start (globalClock 103) ≡ 101
 unfolding computed
 value-at-103 = sym (shows-value 6 by-read refl refl refl)

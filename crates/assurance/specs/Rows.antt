@@ -1,19 +1,19 @@
 -- What the rows of the desk's table say where their tests do not hold, and that number 0 means that no test holds. They stand in the table's
 -- order, but for 4, which the closing reading needs; 2, 3 and 5 are said by `Reads` of validity. Assumes nothing.
-use Prim.Native.Nat.{ℕ, zero, suc, _+_, _≤_}
+use Prim.Native.Nat.{ℕ, zero, suc, _+_, _-_, _≤_}
 use mathlib.Core.Path.{_≡_, refl, sym, ap, subst, _∙_}
 use mathlib.Core.Bool.{Bool, true, false, not, cond, _&&_, false≢true}
 use mathlib.Core.List.{List, [], _∷_}
 use native.Mathlib.Omega.{arith}
 use lib.Dec.{eqb, leb, ltb}
 use lib.ListN.{length, getD}
-use borrow.Author.Tests.{eqb-true, eqb-false, eq-eqb, ltb-false, leb-true, not-false}
+use borrow.Author.Tests.{eqb-true, eqb-false, eq-eqb, ltb-false, leb-true, not-true, not-false}
 use Rattle.forms.specs.Bytes.{same, window}
 use Rattle.forms.specs.BytesLaws.{same-equal, window-whole}
-use Rattle.forms.specs.Chain.{follows}
+use Rattle.forms.specs.Chain.{followsBy}
 use Rattle.forms.specs.Checks.{Row, firstOf}
 use Rattle.forms.specs.Limits.{nonceLen}
-use Rattle.forms.specs.TestsLaws.{both, neither, not-second}
+use Rattle.forms.specs.TestsLaws.{both, neither}
 use Rattle.forms.specs.Terms.{globalClock, sameId}
 use Rattle.forms.specs.TermsLaws.{same-id}
 use Rattle.forms.specs.declared.confirmation.Confirmation.{Confirmation}
@@ -25,7 +25,7 @@ use Rattle.validity.specs.declared.proof.Kind.{Kind}
 use Rattle.validity.specs.declared.proof.Proof.{Proof}
 use Rattle.desk.specs.Answer.{figures}
 use Rattle.desk.specs.declared.answer.Answer.{Answer}
-use Rattle.desk.specs.Desk.{confirmation, certificate, entry, verdictCount, zeroOrOne, isNo, moduleVerdict, ownerVerdict, badWanted, badVerdicts, badConfirmation, certificateDenied, moduleDenied, closesElsewhere, wrongReading, wrongClosing, ownerDenied, valueBefore, breaksChain, closing}
+use Rattle.desk.specs.Desk.{confirmation, certificate, entry, verdictsBefore, verdictCount, zeroOrOne, isNo, moduleVerdict, ownerVerdict, isOwn, runningTo, badWanted, badVerdicts, badConfirmation, certificateDenied, moduleDenied, closesElsewhere, wrongReading, wrongClosing, breaksChain, closing}
 use Rattle.desk.specs.LowestLaws.{Clear}
 
 -- ---- a table of refusals
@@ -121,25 +121,36 @@ module-said verdicts before n clear = clear
 same-nonce : (own nonce : List ℕ) → length nonce ≡ nonceLen → not (same own (window nonce 0 nonceLen)) ≡ false → own ≡ nonce
 same-nonce own nonce long e = same-equal own (window nonce 0 nonceLen) (not-false (same own (window nonce 0 nonceLen)) e) ∙ window-whole nonce nonceLen long
 
-module _ (kind : Kind) (n : ℕ) (s : List ℕ) (id : CounterId) (nonce : List ℕ) (long : length nonce ≡ nonceLen)
-    (e : closesElsewhere (record { kind = kind; count = n }) s id nonce ≡ false) where
+-- an entry that is the counter's own names it and has the owner's yes
+own-right : (s : List ℕ) (log : ℕ) (verdicts : List ℕ) (before : ℕ) (id : CounterId) (i : ℕ) → isOwn s log verdicts before id i ≡ true
+    → (entry s log i .id ≡ id) × (isNo (ownerVerdict verdicts before i) ≡ false)
+unfolding isOwn
+own-right s log verdicts before id i e =
+    let each = both (sameId (entry s log i .id) id) (not (isNo (ownerVerdict verdicts before i))) e in
+    (same-id (entry s log i .id) id (each .0), not-true (isNo (ownerVerdict verdicts before i)) (each .1))
+
+module _ (kind : Kind) (n : ℕ) (s verdicts : List ℕ) (id : CounterId) (nonce : List ℕ) (long : length nonce ≡ nonceLen)
+    (e : closesElsewhere (record { kind = kind; count = n }) s verdicts id nonce ≡ false) where
   -- 10, in kind 1
   pub certificate-closes : kind ≡ Kind.Read → certificate s .nonce ≡ nonce
   unfolding closesElsewhere
   certificate-closes read =
       same-nonce (certificate s .nonce) nonce long
-      (subst (λ (k : Kind). closesElsewhere (record { kind = k; count = n }) s id nonce ≡ false) read e)
+      (subst (λ (k : Kind). closesElsewhere (record { kind = k; count = n }) s verdicts id nonce ≡ false) read e)
 
   -- 10, in kind 2
-  pub last-closes : kind ≡ Kind.Increment → (entry s (logOffset kind) n .id ≡ id) × (entry s (logOffset kind) n .nonce ≡ nonce)
+  pub last-closes : kind ≡ Kind.Increment
+      → ((entry s (logOffset kind) n .id ≡ id) × (isNo (ownerVerdict verdicts (verdictsBefore kind) n) ≡ false)) × (entry s (logOffset kind) n .nonce ≡ nonce)
   unfolding closesElsewhere
   last-closes increment =
-      subst (λ (k : Kind). (entry s (logOffset k) n .id ≡ id) × (entry s (logOffset k) n .nonce ≡ nonce)) (sym increment)
-      (let last = entry s (logOffset Kind.Increment) n in
-      let each = neither (not (sameId (last .id) id)) (not (same (last .nonce) (window nonce 0 nonceLen)))
-      (subst (λ (k : Kind). closesElsewhere (record { kind = k; count = n }) s id nonce ≡ false) increment e)
+      subst (λ (k : Kind). ((entry s (logOffset k) n .id ≡ id) × (isNo (ownerVerdict verdicts (verdictsBefore k) n) ≡ false)) × (entry s (logOffset k) n .nonce ≡ nonce))
+      (sym increment)
+      (let log = logOffset Kind.Increment in
+      let before = verdictsBefore Kind.Increment in
+      let each = neither (not (isOwn s log verdicts before id n)) (not (same (entry s log n .nonce) (window nonce 0 nonceLen)))
+      (subst (λ (k : Kind). closesElsewhere (record { kind = k; count = n }) s verdicts id nonce ≡ false) increment e)
       in
-      (same-id (last .id) id (not-false (sameId (last .id) id) (each .0)), same-nonce (last .nonce) nonce long (each .1)))
+      (own-right s log verdicts before id n (not-false (isOwn s log verdicts before id n) (each .0)), same-nonce (entry s log n .nonce) nonce long (each .1)))
 
 -- 11
 pub readings-right : (s : List ℕ) (log : ℕ) (start : GlobalClock) (n : ℕ) → Clear (wrongReading s log start) n
@@ -171,16 +182,10 @@ pub closing-read : (kind : Kind) (n : ℕ) (s : List ℕ) → kind ≡ Kind.Read
 unfolding closing
 closing-read kind n s read = ap (λ (k : Kind). closing (record { kind = k; count = n }) s) read
 
--- 12
-pub owner-said : (s : List ℕ) (log : ℕ) (verdicts : List ℕ) (before : ℕ) (id : CounterId) (n : ℕ) → Clear (ownerDenied s log verdicts before id) n
-    → (k : ℕ) → 1 ≤ k → k ≤ n → entry s log k .id ≡ id → isNo (ownerVerdict verdicts before k) ≡ false
-unfolding ownerDenied
-owner-said s log verdicts before id n clear k low high own =
-    not-second (sameId (entry s log k .id) id) (isNo (ownerVerdict verdicts before k)) (clear k low high)
-    (eq-eqb (entry s log k .id .0) (id .0) (ap (λ (i : CounterId). i .0) own))
-
 -- 13
-pub chain-right : (s : List ℕ) (log : ℕ) (id : CounterId) (value n : ℕ) → Clear (breaksChain s log id value) n
-    → (k : ℕ) → 1 ≤ k → k ≤ n → follows id (valueBefore s log id value k) (entry s log k) ≡ true
+pub chain-right : (s : List ℕ) (log : ℕ) (verdicts : List ℕ) (before : ℕ) (id : CounterId) (value n : ℕ) → Clear (breaksChain s log verdicts before id value) n
+    → (k : ℕ) → 1 ≤ k → k ≤ n
+    → followsBy (isOwn s log verdicts before id k) (runningTo s log verdicts before id value (k - 1) .value) (entry s log k) ≡ true
 unfolding breaksChain
-chain-right s log id value n clear k low high = not-false (follows id (valueBefore s log id value k) (entry s log k)) (clear k low high)
+chain-right s log verdicts before id value n clear k low high =
+    not-false (followsBy (isOwn s log verdicts before id k) (runningTo s log verdicts before id value (k - 1) .value) (entry s log k)) (clear k low high)

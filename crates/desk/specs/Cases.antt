@@ -1,5 +1,6 @@
--- Document 01's "Twelve proofs at the desk", cases A to L, as one table: each row is a proof by its fields, its verdicts, what is wanted,
--- and the answer's number, value, place and openings. One theorem says that the desk's definition gives every row its answer. Assumes nothing.
+-- Document 01's "Twelve proofs at the desk", cases A to L, with G as document 02's Note 5 has it, and four more of unsigned entries, as one
+-- table: each row is a proof by its fields, its verdicts, what is wanted, and the answer's number, value, place and openings. One theorem says that
+-- the desk's definition gives every row its answer. Assumes nothing.
 use mathlib.Core.Path.{_≡_, subst⁻¹}
 use Prim.Native.Nat.{ℕ}
 use mathlib.Core.Bool.{Bool, true, false, _&&_}
@@ -11,16 +12,15 @@ use Rattle.forms.specs.Terms.{counterId, globalClock}
 use Rattle.forms.specs.Bytes.{window, same}
 use Rattle.forms.specs.Confirmation.{confirmationAt, confirmationBytes}
 use Rattle.forms.specs.Certificate.{certificateAt, certificateBytes}
-use Rattle.forms.specs.Entry.{entryAt, entryBytes, entriesAt, logBytes}
-use Rattle.forms.specs.Chain.{step, follows, runningAfter, valueAfter}
+use Rattle.forms.specs.Entry.{entryAt, entryBytes, logBytes}
 use Rattle.forms.specs.declared.terms.CounterId.{CounterId}
 use Rattle.forms.specs.declared.confirmation.Confirmation.{Confirmation}
 use Rattle.forms.specs.declared.entry.Entry.{Entry}
 use Rattle.validity.specs.Proof.{Fields, read, increment, headerOf, headerBytes, encode}
 use Rattle.desk.specs.Answer.{Figures, figures}
 use Rattle.desk.specs.Lowest.{lowestFrom}
-use Rattle.desk.specs.Desk.{allYes, zeroOrOne, badWanted, badVerdicts, badConfirmation, certificateDenied, moduleDenied}
-use Rattle.desk.specs.Desk.{closesElsewhere, wrongReading, wrongClosing, ownerDenied, breaksChain, closing, verified}
+use Rattle.desk.specs.Desk.{allYes, zeroOrOne, isOwn, runningTo, badWanted, badVerdicts, badConfirmation, certificateDenied, moduleDenied}
+use Rattle.desk.specs.Desk.{closesElsewhere, wrongReading, wrongClosing, breaksChain, closing, verified}
 
 -- ---- a row
 
@@ -120,8 +120,8 @@ cases =
     ∷ plain (onRead (confirmed 7 100 100) 103 (first ∷ third ∷ [])) 11 0 2 0
     -- F: owner's no at entry 2
     ∷ row P (1 ∷ 1 ∷ 1 ∷ 1 ∷ 1 ∷ 0 ∷ 1 ∷ 1 ∷ []) asked 0 103 0 2
-    -- G: owner's no at entry 1
-    ∷ row P (1 ∷ 1 ∷ 1 ∷ 0 ∷ 1 ∷ 1 ∷ 1 ∷ 1 ∷ []) asked 12 0 1 0
+    -- G: owner's no at entry 1, so that entry 3 states another value than the running one
+    ∷ row P (1 ∷ 1 ∷ 1 ∷ 0 ∷ 1 ∷ 1 ∷ 1 ∷ 1 ∷ []) asked 13 0 3 0
     -- H: other nonce wanted
     ∷ row P (allYes P) (nonceOf 6) 10 0 0 0
     -- I: confirmation (7, 101, 100)
@@ -132,6 +132,14 @@ cases =
     ∷ plain (onRead atEnd 4294967295 []) 0 4294967295 0 0
     -- L: K with one entry t = 0 and certificate 0
     ∷ plain (onRead atEnd 0 (entry 1 0 7 4294967295 ∷ [])) 11 0 1 0
+    -- owner's no at entry 3: value and openings stay as entry 1 left them
+    ∷ row P (1 ∷ 1 ∷ 1 ∷ 1 ∷ 1 ∷ 1 ∷ 1 ∷ 0 ∷ []) asked 0 101 0 1
+    -- owner's no everywhere: the value stays the confirmation's
+    ∷ row P (1 ∷ 1 ∷ 1 ∷ 0 ∷ 1 ∷ 0 ∷ 1 ∷ 0 ∷ []) asked 0 100 0 0
+    -- owner's no at entry 2, here counter 7's, which states any value
+    ∷ row (onRead (confirmed 7 100 100) 103 (first ∷ entry 2 102 7 4294967295 ∷ third ∷ [])) (1 ∷ 1 ∷ 1 ∷ 1 ∷ 1 ∷ 0 ∷ 1 ∷ 1 ∷ []) asked 0 103 0 2
+    -- kind 2, owner's no at entry 3, whose counter and nonce are the wanted ones
+    ∷ row (onIncrement (confirmed 7 100 100) (first ∷ second ∷ third ∷ [])) (1 ∷ 1 ∷ 1 ∷ 1 ∷ 1 ∷ 1 ∷ 0 ∷ []) (nonceOf 3) 10 0 0 0
     ∷ []
 
 -- ---- every row holds
@@ -164,8 +172,8 @@ in-table c (x ∷ xs) t (List·Memᴰ·tail m) = in-table c xs (both (agrees x) 
 
 computed : T (every cases)
 unfolding every agrees cases verified badWanted badVerdicts badConfirmation certificateDenied moduleDenied closesElsewhere wrongReading
-    wrongClosing ownerDenied breaksChain closing zeroOrOne lowestFrom window same confirmationAt confirmationBytes certificateAt
-    certificateBytes entryAt entryBytes entriesAt logBytes step follows runningAfter valueAfter headerOf headerBytes encode
+    wrongClosing isOwn runningTo breaksChain closing zeroOrOne lowestFrom window same confirmationAt confirmationBytes certificateAt
+    certificateBytes entryAt entryBytes logBytes headerOf headerBytes encode
 computed = tt
 
 pub cases-hold : (c : Case) → List·Memᴰ c cases → Holds c

@@ -1,6 +1,7 @@
 -- The desk's answer to a validity proof: document 01, "The desk". One row of `verified` for each row of its table, in its order; 9 and
--- 11 have two, for the clock certificate and for the entries. Assumes nothing.
-use Prim.Native.Nat.{ℕ, _+_, _-_, _*_, _/_}
+-- 11 have two, for the clock certificate and for the entries, and 12 has none: document 02's Note 5, "Number 12 is no longer given".
+-- Assumes nothing.
+use Prim.Native.Nat.{ℕ, zero, suc, _+_, _-_, _*_, _/_}
 use mathlib.Core.Bool.{Bool, true, false, not, _&&_, _||_}
 use mathlib.Core.List.{List, [], _∷_}
 use lib.Dec.{eqb, leb, ltb}
@@ -13,11 +14,12 @@ use Rattle.forms.specs.declared.terms.GlobalClock.{GlobalClock}
 use Rattle.forms.specs.declared.confirmation.Confirmation.{Confirmation}
 use Rattle.forms.specs.declared.certificate.Certificate.{Certificate}
 use Rattle.forms.specs.declared.entry.Entry.{Entry}
+use Rattle.forms.specs.declared.running.Running.{Running}
 use Rattle.forms.specs.Checks.{Row, _gives_, firstOf}
 use Rattle.forms.specs.Confirmation.{confirmationAt}
 use Rattle.forms.specs.Certificate.{certificateAt}
-use Rattle.forms.specs.Entry.{entryAt, entriesAt}
-use Rattle.forms.specs.Chain.{follows, fromValue, runningAfter, valueAfter}
+use Rattle.forms.specs.Entry.{entryAt}
+use Rattle.forms.specs.Chain.{fromValue, stepBy, followsBy}
 use Rattle.validity.specs.declared.proof.Kind.{Kind}
 use Rattle.validity.specs.declared.proof.Proof.{Proof}
 use Rattle.validity.specs.Proof.{Fields, shapeOf, knownForm, shapeAt, miscounted, laidOut, confirmationOffset, certificateOffset, logOffset}
@@ -78,6 +80,23 @@ moduleVerdict verdicts before i = getD verdicts (before + 2 * (i - 1)) 0
 abbrev pub ownerVerdict : List ℕ → ℕ → ℕ → ℕ
 ownerVerdict verdicts before i = getD verdicts (before + 2 * (i - 1) + 1) 0
 
+-- ---- the wanted counter's own entries
+
+-- an entry is the counter's own where it names the counter and the owner's verdict on it is yes. Document 02, Note 5: "An entry of the wanted box
+-- with owner's verdict no is now passed over"; here alone that verdict counts
+abbrev pub ownBy : Bool → ℕ → Bool
+ownBy names verdict = names && not (isNo verdict)
+
+-- entry i is the wanted counter's own
+unfoldable pub isOwn : List ℕ → ℕ → List ℕ → ℕ → CounterId → ℕ → Bool
+isOwn s log verdicts before id i = ownBy (sameId (entry s log i .id) id) (ownerVerdict verdicts before i)
+
+-- running value and count behind the first i entries, from the confirmation's value on
+unfoldable pub runningTo : List ℕ → ℕ → List ℕ → ℕ → CounterId → ℕ → ℕ → Running
+runningTo s log verdicts before id value zero = fromValue value
+runningTo s log verdicts before id value (suc i) =
+    stepBy (isOwn s log verdicts before id (suc i)) (runningTo s log verdicts before id value i) (entry s log (suc i))
+
 -- ---- what the checks test
 
 -- 1: wanted counter 0, or wanted nonce not 20 bytes
@@ -100,13 +119,13 @@ certificateDenied kind verdicts = byKind kind (isNo (getD verdicts 1 0)) false
 unfoldable pub moduleDenied : List ℕ → ℕ → ℕ → Bool
 moduleDenied verdicts before i = isNo (moduleVerdict verdicts before i)
 
--- 10: kind 1: the certificate's nonce is not the wanted one; kind 2: the last entry has another counter or nonce
-unfoldable pub closesElsewhere : Proof → List ℕ → CounterId → List ℕ → Bool
-closesElsewhere p s id nonce =
-    let last : Entry = entry s (logOffset (p .kind)) (p .count) in
+-- 10: kind 1: the certificate's nonce is not the wanted one; kind 2: the last entry is not the counter's own, or has another nonce
+unfoldable pub closesElsewhere : Proof → List ℕ → List ℕ → CounterId → List ℕ → Bool
+closesElsewhere p s verdicts id nonce =
+    let log : ℕ = logOffset (p .kind) in
     byKind (p .kind)
     (not (same (certificate s .nonce) (window nonce 0 nonceLen)))
-    (not (sameId (last .id) id) || not (same (last .nonce) (window nonce 0 nonceLen)))
+    (not (isOwn s log verdicts (verdictsBefore (p .kind)) id (p .count)) || not (same (entry s log (p .count) .nonce) (window nonce 0 nonceLen)))
 
 -- 11: entry i has another t than g + i, in whole numbers
 unfoldable pub wrongReading : List ℕ → ℕ → GlobalClock → ℕ → Bool
@@ -116,17 +135,10 @@ wrongReading s log start i = not (eqb (entry s log i .reading .0) (start .0 + i)
 unfoldable pub wrongClosing : Proof → List ℕ → Bool
 wrongClosing p s = byKind (p .kind) (not (eqb (certificate s .reading .0) (confirmation s .reading .0 + p .count))) false
 
--- 12: entry i is the wanted counter's and the owner's verdict on it is no
-unfoldable pub ownerDenied : List ℕ → ℕ → List ℕ → ℕ → CounterId → ℕ → Bool
-ownerDenied s log verdicts before id i = sameId (entry s log i .id) id && isNo (ownerVerdict verdicts before i)
-
--- the running value before entry i
-abbrev pub valueBefore : List ℕ → ℕ → CounterId → ℕ → ℕ → ℕ
-valueBefore s log id value i = valueAfter id value (entriesAt s log (i - 1))
-
--- 13: entry i is the wanted counter's and states another value before than the running value
-unfoldable pub breaksChain : List ℕ → ℕ → CounterId → ℕ → ℕ → Bool
-breaksChain s log id value i = not (follows id (valueBefore s log id value i) (entry s log i))
+-- 13: entry i is the wanted counter's own and states another value before than the running value
+unfoldable pub breaksChain : List ℕ → ℕ → List ℕ → ℕ → CounterId → ℕ → ℕ → Bool
+breaksChain s log verdicts before id value i =
+    not (followsBy (isOwn s log verdicts before id i) (runningTo s log verdicts before id value (i - 1) .value) (entry s log i))
 
 -- T: the certificate's reading in kind 1, the last t in kind 2
 unfoldable pub closing : Proof → List ℕ → GlobalClock
@@ -149,20 +161,20 @@ laterChecks p s verdicts id nonce =
     ∷ (isNo (getD verdicts 0 0) gives Answer.Refused 8 0)
     ∷ (certificateDenied (p .kind) verdicts gives Answer.Refused 9 0)
     ∷ lowestEntry 9 (lowest (moduleDenied verdicts before) n)
-    ∷ (closesElsewhere p s id nonce gives Answer.Refused 10 0)
+    ∷ (closesElsewhere p s verdicts id nonce gives Answer.Refused 10 0)
     ∷ lowestEntry 11 (lowest (wrongReading s log (confirmation s .reading)) n)
     ∷ (wrongClosing p s gives Answer.Refused 11 (n + 1))
-    ∷ lowestEntry 12 (lowest (ownerDenied s log verdicts before id) n)
-    ∷ lowestEntry 13 (lowest (breaksChain s log id (confirmation s .value)) n)
+    ∷ lowestEntry 13 (lowest (breaksChain s log verdicts before id (confirmation s .value)) n)
     ∷ []
 
--- "The final running value is the answer; place is 0", and with it the count of the wanted counter's entries
-abbrev pub accepted : Proof → List ℕ → CounterId → Answer
-accepted p s id = Answer.Accepted (runningAfter id (fromValue (confirmation s .value)) (entriesAt s (logOffset (p .kind)) (p .count))) (closing p s)
+-- "The final running value is the answer; place is 0", and with it the count of the wanted counter's own entries
+abbrev pub accepted : Proof → List ℕ → List ℕ → CounterId → Answer
+accepted p s verdicts id =
+    Answer.Accepted (runningTo s (logOffset (p .kind)) verdicts (verdictsBefore (p .kind)) id (confirmation s .value) (p .count)) (closing p s)
 
 -- the answer to bytes that read as a proof
 unfoldable pub judged : Proof → List ℕ → List ℕ → CounterId → List ℕ → Answer
-judged p s verdicts id nonce = firstOf (laterChecks p s verdicts id nonce) (accepted p s id)
+judged p s verdicts id nonce = firstOf (laterChecks p s verdicts id nonce) (accepted p s verdicts id)
 
 -- the desk's answer to proof, verdicts, wanted counter and wanted nonce
 unfoldable pub verified : List ℕ → List ℕ → CounterId → List ℕ → Answer
@@ -174,4 +186,4 @@ verified s verdicts id nonce =
     ∷ (miscounted (shapeAt s) gives Answer.Refused 4 0)
     ∷ (not (laidOut s (shapeAt s)) gives Answer.Refused 5 0)
     ∷ laterChecks (shapeAt s) s verdicts id nonce)
-    (accepted (shapeAt s) s id)
+    (accepted (shapeAt s) s verdicts id)

@@ -7,9 +7,10 @@ use validity::proof::Proof;
 ghost use mathlib.Core.Path.{_≡_};
 ghost use mathlib.Core.Bool.{false};
 ghost use Prim.Native.Nat.{_+_, _*_, _≤_};
+ghost use lib.Dec.{eqb};
 ghost use lib.ListN.{length};
 ghost use Rattle.desk.specs.Lowest.{lowest};
-ghost use Rattle.desk.specs.Desk.{verdictsBefore, verdictsFor, zeroOrOne, badVerdicts, certificateDenied, moduleDenied};
+ghost use Rattle.desk.specs.Desk.{verdictsBefore, verdictsFor, zeroOrOne, ownBy, badVerdicts, certificateDenied, moduleDenied};
 
 // How many verdicts there are on a proof of a kind and a whole length: so many a station has to hand over.
 //
@@ -50,6 +51,14 @@ fn zero_or_one(verdicts: &[u8]) -> bool
         i += 1;
     }
     fine
+}
+
+// Whether an entry is the wanted counter's own, by the ids or the keys of both counters and by the owner's verdict on the entry. Here alone that
+// verdict counts.
+pub(crate) fn is_own(named: u32, wanted: u32, verdict: u8) -> bool
+    ensures { λ r. ⌜ r ≡ ownBy (eqb named wanted) verdict ⌝ }
+{
+    (named == wanted) & (verdict != 0)
 }
 
 // Check 6: whether the list has another length than the proof's shape asks for, or a byte over 1.

@@ -61,7 +61,7 @@ fn judge(s: &[u8], proof: Proof, verdicts: &[u8], id: CounterId, nonce: &[u8]) -
     if found.denied != 0 {
         return Answer::Refused(9, found.denied);
     }
-    if closes_elsewhere(s, proof, id, nonce) {
+    if closes_elsewhere(s, proof, verdicts, id, nonce) {
         return Answer::Refused(10, 0);
     }
     if found.wrong != 0 {
@@ -69,9 +69,6 @@ fn judge(s: &[u8], proof: Proof, verdicts: &[u8], id: CounterId, nonce: &[u8]) -
     }
     if wrong_closing(s, proof, start) {
         return Answer::Refused(11, proof.count + 1);
-    }
-    if found.unsigned != 0 {
-        return Answer::Refused(12, found.unsigned);
     }
     if found.walk.place != 0 {
         return Answer::Refused(13, found.walk.place);
@@ -83,7 +80,7 @@ fn judge(s: &[u8], proof: Proof, verdicts: &[u8], id: CounterId, nonce: &[u8]) -
 // The desk's answer to proof, verdicts, wanted counter and wanted nonce. Nothing is asked of the caller, and nothing is written.
 //
 // Ruled out, among others: a desk that answers with the last value before instead of the last reading; one that turns every proof away; one that
-// counts every counter's entries.
+// counts every counter's entries; one whose value moves, or whose proof closes, by an entry that the owner did not sign.
 pub fn verify(proof: &[u8], verdicts: &[u8], id: CounterId, nonce: &[u8]) -> Answer
     ensures { λ r. ⌜ r ≡ verified (now (proof .entry)) (now (verdicts .entry)) id (now (nonce .entry)) ⌝ }
 {

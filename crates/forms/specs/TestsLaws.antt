@@ -15,11 +15,6 @@ pub neither : (a b : Bool) → (a || b) ≡ false → (a ≡ false) × (b ≡ fa
 neither true b e = absurd (true≢false e)
 neither false b e = (refl, e)
 
--- the second of two tests does not hold though the first does
-pub not-second : (a b : Bool) → (a && b) ≡ false → a ≡ true → b ≡ false
-not-second true b e held = e
-not-second false b e held = absurd (false≢true held)
-
 -- ---- part by part
 
 -- a first part that holds can be dropped, and one that does not hold decides

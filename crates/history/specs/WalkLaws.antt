@@ -8,12 +8,6 @@ use Rattle.forms.specs.declared.terms.GlobalClock.{GlobalClock}
 use Rattle.forms.specs.Terms.{globalClock}
 use Rattle.history.specs.Walk.{walk}
 
--- the first reading of a walk
-pub walk-first : {A : Type 0} (step : A → GlobalClock → A) (a : A) (reading : GlobalClock) (k : ℕ)
-    → walk step a reading (suc k) ≡ walk step (step a (globalClock (reading .0 + 1))) (globalClock (reading .0 + 1)) k
-unfolding walk
-walk-first step a reading k = refl
-
 -- the last reading of a walk
 pub walk-last : {A : Type 0} (step : A → GlobalClock → A) (a : A) (reading : GlobalClock) (k : ℕ)
     → walk step a reading (suc k) ≡ step (walk step a reading k) (globalClock (reading .0 + suc k))

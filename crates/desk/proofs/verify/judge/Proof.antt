@@ -8,17 +8,15 @@ use borrow.Author.Needs.{needs}
 use borrow.Author.Tests.{eq-eqb, ne-eqb}
 use lib.Dec.{eqb}
 use lib.ListN.{drop, length}
-use Rattle.forms.specs.Chain.{fromValue, runningAfter}
 use Rattle.forms.specs.Checks.{firstOf}
 use Rattle.forms.specs.ChecksLaws.{passed, given}
-use Rattle.forms.specs.Entry.{entriesAt}
 use Rattle.forms.specs.Limits.{maxEntries}
 use Rattle.forms.specs.declared.confirmation.Confirmation.{Confirmation}
 use Rattle.validity.specs.Proof.{logOffset}
 use Rattle.validity.specs.ProofLaws.{count-bound}
 use Rattle.desk.specs.Answer.{Answer}
 use Rattle.desk.specs.Lowest.{lowest}
-use Rattle.desk.specs.Desk.{isNo, verdictsBefore, verdictCount, badConfirmation, moduleDenied, wrongReading, ownerDenied, breaksChain, laterChecks, accepted, judged, confirmation}
+use Rattle.desk.specs.Desk.{isNo, verdictsBefore, verdictCount, runningTo, badConfirmation, moduleDenied, wrongReading, breaksChain, laterChecks, accepted, judged, confirmation}
 use Rattle.desk.specs.VerdictsLaws.{counted-verdicts}
 use Rattle.desk.proofs.verify.judge.Statement.{statement}
 use Rattle.desk.proofs.verify.judge.Tie as tie
@@ -35,7 +33,7 @@ answer c = judged (c .args .proof) (c .args .s .now) (c .args .verdicts .now) (c
 abbrev rest : ℕ → tie.Start → Answer
 rest k c =
     firstOf (drop k (laterChecks (c .args .proof) (c .args .s .now) (c .args .verdicts .now) (c .args .id) (c .args .nonce .now)))
-    (accepted (c .args .proof) (c .args .s .now) (c .args .id))
+    (accepted (c .args .proof) (c .args .s .now) (c .args .verdicts .now) (c .args .id))
 
 -- where no row has been passed over
 rest-0 : (c : tie.Start) → answer c ≡ rest 0 c
@@ -128,19 +126,18 @@ found-places : (c : tie.After-walk-log) →
     let found = c .walk-log .result in
     (found .denied ≡ lowest (moduleDenied (a .verdicts .now) before) (a .proof .count))
     × (found .wrong ≡ lowest (wrongReading (a .s .now) log (k .reading)) (a .proof .count))
-    × (found .unsigned ≡ lowest (ownerDenied (a .s .now) log (a .verdicts .now) before (a .id)) (a .proof .count))
-    × (found .walk .place ≡ lowest (breaksChain (a .s .now) log (a .id) (k .value)) (a .proof .count))
-    × (found .walk .place ≡ 0 → found .walk .running ≡ runningAfter (a .id) (fromValue (k .value)) (entriesAt (a .s .now) log (a .proof .count)))
+    × (found .walk .place ≡ lowest (breaksChain (a .s .now) log (a .verdicts .now) before (a .id) (k .value)) (a .proof .count))
+    × (found .walk .place ≡ 0 → found .walk .running ≡ runningTo (a .s .now) log (a .verdicts .now) before (a .id) (k .value) (a .proof .count))
 found-places c =
     let a = start-4 (c .before) .args in
     let log = logOffset (a .proof .kind) in
+    let before = verdictsBefore (a .proof .kind) in
     let read = held-4 (c .before) .before .read .ensures in
     let found = c .walk-log .ensures in (
       found .0,
       found .1 .0 ∙ ap (λ (k : Confirmation). lowest (wrongReading (a .s .now) log (k .reading)) (a .proof .count)) read,
-      found .1 .1 .0,
-      found .1 .1 .1 .0 ∙ ap (λ (k : Confirmation). lowest (breaksChain (a .s .now) log (a .id) (k .value)) (a .proof .count)) read,
-      λ none. found .1 .1 .1 .1 none ∙ ap (λ (k : Confirmation). runningAfter (a .id) (fromValue (k .value)) (entriesAt (a .s .now) log (a .proof .count))) read,
+      found .1 .1 .0 ∙ ap (λ (k : Confirmation). lowest (breaksChain (a .s .now) log (a .verdicts .now) before (a .id) (k .value)) (a .proof .count)) read,
+      λ none. found .1 .1 .1 none ∙ ap (λ (k : Confirmation). runningTo (a .s .now) log (a .verdicts .now) before (a .id) (k .value) (a .proof .count)) read,
     )
 
 -- 9, entries
@@ -199,11 +196,11 @@ start-8 c = start-4 (walked-8 c .before)
 rest-8 : (c : tie.Else8) → answer (start-8 c) ≡ rest 8 (start-8 c)
 rest-8 c = passed _ _ _ (rest-7 (c .before .before)) (sym (c .before .wrong-closing .ensures) ∙ c .if8 .left)
 
--- 12
-unsigned : tie.Need-returns-9
-unsigned c =
+-- 13
+broken : tie.Need-returns-9
+broken c =
     let place = found-places (walked-8 (c .before .before)) .2 in
-    ap (Answer.Refused 12) place ∙ given _ _ _ (rest-8 (c .before .before)) (some-entry _ _ place (c .if9 .taken))
+    ap (Answer.Refused 13) place ∙ given _ _ _ (rest-8 (c .before .before)) (some-entry _ _ place (c .if9 .taken))
 
 abbrev walked-9 : tie.Else9 → tie.After-walk-log
 walked-9 c = walked-8 (c .before .before)
@@ -214,26 +211,11 @@ start-9 c = start-4 (walked-9 c .before)
 rest-9 : (c : tie.Else9) → answer (start-9 c) ≡ rest 9 (start-9 c)
 rest-9 c = passed _ _ _ (rest-8 (c .before .before)) (no-entry _ _ (found-places (walked-9 c) .2) (c .if9 .left))
 
--- 13
-broken : tie.Need-returns-10
-broken c =
-    let place = found-places (walked-9 (c .before .before)) .3 in
-    ap (Answer.Refused 13) place ∙ given _ _ _ (rest-9 (c .before .before)) (some-entry _ _ place (c .if10 .taken))
-
-abbrev walked-10 : tie.Else10 → tie.After-walk-log
-walked-10 c = walked-9 (c .before .before)
-
-abbrev start-10 : tie.Else10 → tie.Start
-start-10 c = start-4 (walked-10 c .before)
-
-rest-10 : (c : tie.Else10) → answer (start-10 c) ≡ rest 10 (start-10 c)
-rest-10 c = passed _ _ _ (rest-9 (c .before .before)) (no-entry _ _ (found-places (walked-10 c) .3) (c .if10 .left))
-
 -- the value and the closing reading
-shown : tie.Need-returns-11
+shown : tie.Need-returns-10
 shown c =
     let last = c .before .before in
-    ap₂ Answer.Accepted (found-places (walked-10 last) .4 (last .if10 .left)) (c .closing-reading .ensures) ∙ sym (rest-10 last)
+    ap₂ Answer.Accepted (found-places (walked-9 last) .3 (last .if9 .left)) (c .closing-reading .ensures) ∙ sym (rest-9 last)
 
 pub judge-spec : {M : Type 1} → statement M
 judge-spec =
@@ -256,7 +238,6 @@ judge-spec =
     (λ c κs. ap (λ (k : Confirmation). k .reading) (held-4 (walked-7 c .before) .before .read .ensures))
     (λ c. omega (arith, few (start-7 (c .before .before .before))))
     closing
-    unsigned
     broken
-    (λ c κs. start-10 (c .before) .pre .0)
+    (λ c κs. start-9 (c .before) .pre .0)
     shown)
