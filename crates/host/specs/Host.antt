@@ -20,6 +20,7 @@ use Rattle.forms.specs.declared.terms.GlobalClock.{GlobalClock}
 use Rattle.validity.specs.Proof.{Fields, read, increment, shapeOf, proofLen, encode as proofBytes}
 use Rattle.log_image.specs.State.{Record, State, decode, encode}
 use Rattle.log_image.specs.Sound.{holds, oldest, base, after, ending, sound}
+use Rattle.host.specs.declared.change.Change.{Change}
 pub use Rattle.host.specs.declared.answer.Figures.{Figures}
 pub use Rattle.host.specs.declared.answer.ReadFigures.{ReadFigures}
 
@@ -178,6 +179,18 @@ updated (r ∷ rs) id change = cond (sameId (r .held .id) id) (change r ∷ rs) 
 abbrev pub updatedState : State → CounterId → (Record → Record) → State
 updatedState st id change = withRecords st (updated (st .records) id change)
 
+-- what a call changes in its counter's record. confirm: the owner's newer confirmation
+abbrev pub confirmedBy : Confirmation → Record → Record
+confirmedBy c r = record { held = c; current = r .current }
+
+-- increment: the new clock as current value
+abbrev pub raisedTo : GlobalClock → Record → Record
+raisedTo reading r = record { held = r .held; current = reading .0 }
+
+abbrev pub changedBy : Change → Record → Record
+changedBy (Change.Confirmed c) = confirmedBy c
+changedBy (Change.Raised reading) = raisedTo reading
+
 -- "start writes an image with a given clock, no boxes"
 abbrev pub started : GlobalClock → State
 started clock = record { clock = clock; records = []; log = []; written = 0 }
@@ -191,10 +204,7 @@ raised st carried nonce =
     let next : GlobalClock = globalClock (st .clock .0 + 1) in
     record { clock = next; records = st .records; log = st .log ++ (entryOf next carried nonce ∷ []); written = st .written }
 
--- an increment also makes the new clock the current value in its counter's record
-abbrev pub raisedTo : GlobalClock → Record → Record
-raisedTo reading r = record { held = r .held; current = reading .0 }
-
+-- increment also changes its counter's record
 abbrev pub incremented : State → List ℕ → CounterId → ℕ → State
 incremented st nonce id before =
     let next : State = raised st (Carried.Request id before) nonce in
@@ -214,10 +224,7 @@ ticked st nonce = cond (noneHeld st) (advanced st) (raised st Carried.Tick nonce
 abbrev pub counted : State → State
 counted st = record { clock = st .clock; records = st .records; log = st .log; written = min (st .written + 1) largest }
 
--- "confirm replaces the box's confirmation, then drops entries no longer needed"; the current value stays
-abbrev pub confirmedBy : Confirmation → Record → Record
-confirmedBy c r = record { held = c; current = r .current }
-
+-- "confirm replaces the box's confirmation, then drops entries no longer needed"
 abbrev pub replaced : List Record → Confirmation → List Record
 replaced rs c = updated rs (c .id) (confirmedBy c)
 

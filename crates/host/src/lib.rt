@@ -1,5 +1,6 @@
 // The host: keeps the log image. Document 01, "The host".
 pub mod answer;
+mod change;
 pub mod close;
 pub mod confirm;
 mod counter;
