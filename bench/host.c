@@ -2,8 +2,8 @@
  * The proved host beside two plain ones: first that all give the same figures and leave the same bytes in image and output, then how long
  * each takes.
  *
- * Exits with 1 where anything differs, or where a call or a number that the host has, a read with openings, a number of close or one of the
- * things that a close leads to was never met, so that the comparison would be hollow.
+ * Exits with 1 where anything differs, or where a call or a number that the host has, a read with openings, a number of close, one of the
+ * things that a close leads to or one of the cases of a count of proofs was never met, so that the comparison would be hollow.
  */
 #define _POSIX_C_SOURCE 200809L
 #include "host_plain.h"
@@ -19,9 +19,8 @@ enum { LISTS = 1500, ROUNDS = 300, CALLS = 20, IMPLEMENTATIONS = 3 };
 enum { FIRST_NUMBER = 14, LINE_NUMBER = 27, NUMBERS = 29 };
 /* Room to lend an image, an output or a nonce longer than it should be. */
 enum { SLACK = 64 };
-enum { MAX_COUNTERS = 64, RECORDS = 28, RECORD_LEN = 16, LOG = 1052, ENTRY_LEN = 32, CLOCK = 4, COUNTERS = 8, ENTRIES = 16 };
-/* Where the figures of a record and of an entry stand. */
-enum { VALUE = 4, READING = 8, CURRENT = 12, ENTRY_ID = 24 };
+/* From how many counters on an image has many. */
+enum { MANY = MAX_COUNTERS / 2 };
 
 static const char *const names[IMPLEMENTATIONS] = {"vmc_host_*", "C, linear search", "C, table of hints"};
 
@@ -122,6 +121,12 @@ static uint32_t be32(const uint8_t *p)
     return (uint32_t)p[0] << 24 | (uint32_t)p[1] << 16 | (uint32_t)p[2] << 8 | p[3];
 }
 
+static void put32(uint8_t *p, uint32_t x)
+{
+    for (int i = 3; i >= 0; i--, x >>= 8)
+        p[i] = (uint8_t)x;
+}
+
 /* ---- a random call that is often a valid one */
 
 /* Any number, but often one that is near. */
@@ -133,10 +138,10 @@ static uint32_t near(uint32_t x)
 /* The value of the record's counter at a reading, as an image that is sound has it. */
 static uint32_t value_at(const uint8_t *image, const uint8_t *record, uint32_t reading)
 {
-    uint32_t value = be32(record + VALUE);
+    uint32_t value = be32(record + RECORD_VALUE);
     for (uint32_t k = 0; k < be32(image + ENTRIES); k++) {
         const uint8_t *entry = image + LOG + ENTRY_LEN * k;
-        if (be32(entry) > be32(record + READING) && be32(entry) <= reading && be32(entry + ENTRY_ID) == be32(record))
+        if (be32(entry) > be32(record + RECORD_READING) && be32(entry) <= reading && be32(entry + ENTRY_ID) == be32(record))
             value = be32(entry);
     }
     return value;
@@ -151,12 +156,14 @@ static uint32_t last_named(const uint8_t *image, uint32_t id)
     return k == 0 ? 0 : be32(image + LOG + ENTRY_LEN * (k - 1));
 }
 
-static bool holds(const uint8_t *image, uint32_t id)
+/* The record of a counter, or NULL where it is not held. */
+static const uint8_t *record_of(const uint8_t *image, uint32_t id)
 {
-    uint32_t i = 0, counters = be32(image + COUNTERS);
-    while (i < counters && be32(image + RECORDS + RECORD_LEN * i) != id)
-        i++;
-    return i < counters;
+    uint32_t counters = be32(image + COUNTERS);
+    for (uint32_t i = 0; i < counters && i < MAX_COUNTERS; i++)
+        if (be32(image + RECORDS + RECORD_LEN * i) == id)
+            return image + RECORDS + RECORD_LEN * i;
+    return NULL;
 }
 
 /* A counter that was closed and that the log still names, or 0 where a few looks at the log find none. */
@@ -165,7 +172,7 @@ static uint32_t some_closed(const uint8_t *image)
     uint32_t entries = be32(image + ENTRIES);
     for (int look = 0; look < 8 && entries != 0; look++) {
         uint32_t id = be32(image + LOG + ENTRY_LEN * below(entries) + ENTRY_ID);
-        if (id != 0 && !holds(image, id))
+        if (id != 0 && record_of(image, id) == NULL)
             return id;
     }
     return 0;
@@ -187,13 +194,26 @@ static uint32_t reopening(const uint8_t *image, uint32_t id)
     }
 }
 
-/* How a list's calls are chosen: out of how many counters, and how often an opening, a confirmation and a close are among the calls. */
+/* How a list's calls are chosen: out of how many counters, how often an opening, a confirmation, a close and, besides those that come anyway, a
+ * proof are among the calls, and before how many of them a counter gets another count of proofs. All but the first are of a hundred calls. */
 struct habit {
     uint32_t ids;
     uint32_t opens;
     uint32_t confirms;
     uint32_t closes;
+    uint32_t proofs;
+    uint32_t counts;
 };
+
+static struct habit some_habit(void)
+{
+    return (struct habit){.ids = 1 + below(100),
+                          .opens = 1 + below(30),
+                          .confirms = below(3) * below(3),
+                          .closes = below(3) * below(4),
+                          .proofs = 10 * below(4),
+                          .counts = 4 * below(3)};
+}
 
 static enum kind any_kind(const struct habit *habit)
 {
@@ -203,6 +223,8 @@ static enum kind any_kind(const struct habit *habit)
         return CONFIRM;
     if (below(100) < habit->closes)
         return CLOSE;
+    if (below(100) < habit->proofs)
+        return below(2) == 0 ? PROVE : LAST;
     static const enum kind others[] = {INCREMENT, INCREMENT, INCREMENT, INCREMENT, INCREMENT, INCREMENT, TICK, TICK, READ, PROVE, LAST};
     return others[below(sizeof others / sizeof others[0])];
 }
@@ -212,7 +234,7 @@ static void choose(struct call *c, const uint8_t *image, const struct habit *hab
     uint32_t clock = be32(image + CLOCK), entries = be32(image + ENTRIES), counters = be32(image + COUNTERS);
     uint32_t index = counters == 0 || counters > MAX_COUNTERS ? 0 : below(counters);
     const uint8_t *record = image + RECORDS + RECORD_LEN * index;
-    uint32_t held = be32(record + READING);
+    uint32_t held = be32(record + RECORD_READING);
 
     /* Now and then a close is asked for once more as it was. */
     if (c->kind == CLOSE && below(4) == 0)
@@ -264,21 +286,73 @@ struct tally {
     unsigned long closes[NUMBERS];
     /* Closes that cut the log, that left entries of their counter in it, and that left no counter; counters opened that the log names. */
     unsigned long cutting, leaving_entries, leaving_none, reopened;
+    /* Proofs written for a counter whose count stood at the ceiling, for one whose count came up to it, and where many counters were held. */
+    unsigned long at_ceiling, to_ceiling, among_many;
+    /* Closes that gave a count over 0, the ceiling, and a count over 0 where many counters were held; confirmations that kept a count over 0. */
+    unsigned long charged, charged_ceiling, charged_among_many, kept;
+    /* Refusals of an image that but for the header's last figure is sound. */
+    unsigned long by_header_figure;
 };
 
 static const int close_numbers[] = {0, 14, 15, 16, 17, 21, 22};
 
-/* Counts a call that was done, by the image after it and the count of entries before. */
-static void count_done(struct tally *tally, const uint8_t *image, const struct call *c, uint32_t entries)
+/* What is counted by the image as it was before a call: how many entries and counters it had, and the count of proofs of the call's counter, 0
+ * where that one was not held. */
+struct before {
+    uint32_t entries;
+    uint32_t counters;
+    uint32_t proofs;
+};
+
+static struct before before_call(const uint8_t *image, const struct call *c)
+{
+    const uint8_t *record = record_of(image, c->id);
+    return (struct before){.entries = be32(image + ENTRIES),
+                           .counters = be32(image + COUNTERS),
+                           .proofs = record == NULL ? 0 : be32(record + RECORD_PROOFS)};
+}
+
+/* Counts what became of the count of proofs in a call that was done, by its answer. */
+static void count_proofs(struct tally *tally, const struct call *c, uint32_t value, const struct before *before)
+{
+    bool many = before->counters >= MANY;
+    if (c->kind == PROVE || c->kind == LAST) {
+        tally->at_ceiling += before->proofs == UINT32_MAX;
+        tally->to_ceiling += before->proofs == UINT32_MAX - 1;
+        tally->among_many += many;
+    }
+    if (c->kind == CLOSE) {
+        tally->charged += value > 0;
+        tally->charged_ceiling += value == UINT32_MAX;
+        tally->charged_among_many += value > 0 && many;
+    }
+    if (c->kind == CONFIRM)
+        tally->kept += before->proofs > 0;
+}
+
+/* Counts a call that was done, by its answer and the images after and before it. */
+static void count_done(struct tally *tally, const uint8_t *image, const struct call *c, uint32_t value, const struct before *before)
 {
     tally->done[c->kind]++;
     if (c->kind == CLOSE) {
-        tally->cutting += be32(image + ENTRIES) < entries;
+        tally->cutting += be32(image + ENTRIES) < before->entries;
         tally->leaving_entries += last_named(image, c->id) != 0;
         tally->leaving_none += be32(image + COUNTERS) == 0;
     }
     if (c->kind == OPEN)
         tally->reopened += last_named(image, c->id) != 0;
+    count_proofs(tally, c, value, before);
+}
+
+/* Whether a call was refused by 14 for the header's last figure alone: with zero there the image is sound. */
+static bool by_header_figure(const uint8_t *image, const struct call *c, uint32_t number)
+{
+    static uint8_t mended[VMC_IMAGE_LEN];
+    if (number != 14 || c->image_len != VMC_IMAGE_LEN || be32(image + ZERO_FIGURE) == 0)
+        return false;
+    memcpy(mended, image, sizeof mended);
+    put32(mended + ZERO_FIGURE, 0);
+    return vmc_host_read(mended, sizeof mended, 1).number != 14;
 }
 
 static bool same(vmc_host_read_figures a, vmc_host_read_figures b)
@@ -290,17 +364,17 @@ static bool same(vmc_host_read_figures a, vmc_host_read_figures b)
 static void compare_call(struct tally *tally, struct buffers *buffers, const struct call *c)
 {
     vmc_host_read_figures figures[IMPLEMENTATIONS];
-    uint32_t entries = be32(buffers[0].image + ENTRIES);
+    struct before before = before_call(buffers[0].image, c);
     for (int k = 0; k < IMPLEMENTATIONS; k++)
         figures[k] = ask(k, &buffers[k], c);
     uint32_t number = figures[0].number < NUMBERS ? figures[0].number : 0;
     tally->calls++;
     tally->met[number]++;
     tally->closes[number] += c->kind == CLOSE;
+    tally->with_openings += figures[0].openings > 0;
+    tally->by_header_figure += by_header_figure(buffers[0].image, c, number);
     if (figures[0].number == 0)
-        count_done(tally, buffers[0].image, c, entries);
-    if (figures[0].openings > 0)
-        tally->with_openings++;
+        count_done(tally, buffers[0].image, c, figures[0].value, &before);
     for (int k = 1; k < IMPLEMENTATIONS; k++) {
         bool same_image = memcmp(buffers[0].image, buffers[k].image, sizeof buffers[0].image) == 0;
         bool same_out = memcmp(buffers[0].out, buffers[k].out, sizeof buffers[0].out) == 0;
@@ -322,6 +396,28 @@ static uint8_t *some_record(uint8_t *image)
     return image + RECORDS + RECORD_LEN * (counters == 0 ? 0 : below(counters));
 }
 
+/* A count of proofs: small, any, one behind which more than its last byte changes, or at its ceiling or a little below. */
+static uint32_t some_count(void)
+{
+    switch (below(6)) {
+    case 0:
+        return 1 + below(3);
+    case 1:
+        return below(UINT32_MAX);
+    case 2:
+        return ((1 + below(255)) << 8 * (1 + below(3))) - 1;
+    default:
+        return UINT32_MAX - below(3);
+    }
+}
+
+/* Gives some counter that is held another count of proofs, as calls alone would take long to reach. A sound image stays sound. */
+static void set_count(uint8_t *image)
+{
+    if (be32(image + COUNTERS) != 0)
+        put32(some_record(image) + RECORD_PROOFS, some_count());
+}
+
 /* One random change of a sound image; any may leave it sound. */
 static void damage(uint8_t *image)
 {
@@ -329,9 +425,9 @@ static void damage(uint8_t *image)
     uint8_t *entry = image + LOG + ENTRY_LEN * (entries == 0 ? 0 : below(entries));
     const uint8_t *from;
 
-    switch (below(9)) {
+    switch (below(11)) {
     case 0:
-        image[below(28)] = (uint8_t)below(256);
+        image[below(HEADER_LEN)] = (uint8_t)below(256);
         break;
     case 1: /* records, used and unused */
         image[RECORDS + below(LOG - RECORDS)] ^= (uint8_t)(1 + below(255));
@@ -343,11 +439,11 @@ static void damage(uint8_t *image)
         memmove(image + RECORDS + RECORD_LEN * below(MAX_COUNTERS), image + RECORDS + RECORD_LEN * below(MAX_COUNTERS), 4);
         break;
     case 4: /* the last byte of a current value */
-        some_record(image)[CURRENT + 3] ^= (uint8_t)(1 + below(3));
+        some_record(image)[RECORD_CURRENT + 3] ^= (uint8_t)(1 + below(3));
         break;
     case 5: /* a current value becomes another one, or a confirmed one */
-        from = some_record(image) + (below(2) == 0 ? CURRENT : VALUE);
-        memmove(some_record(image) + CURRENT, from, 4);
+        from = some_record(image) + (below(2) == 0 ? RECORD_CURRENT : RECORD_VALUE);
+        memmove(some_record(image) + RECORD_CURRENT, from, 4);
         break;
     case 6: /* an entry names another counter, which may be held or not, or none */
         entry[ENTRY_ID + 3] = (uint8_t)below(128);
@@ -355,38 +451,106 @@ static void damage(uint8_t *image)
     case 7: /* an entry names none and states no value */
         memset(entry + ENTRY_ID, 0, 8);
         break;
+    case 8: /* the header has a count of proofs */
+        put32(image + ZERO_FIGURE, some_count());
+        break;
+    case 9: /* the form or the log's offset is that of images with records of another length */
+        image[below(2) == 0 ? 1 : LOG_OFFSET + 2] = (uint8_t)below(8);
+        break;
     default:
         image[below(VMC_IMAGE_LEN)] ^= (uint8_t)(1 + below(255));
     }
 }
 
-/* A list of calls from a start on. Now and then the image is damaged for one call, and comes back as it was. */
-static void compare_list(struct tally *tally, struct buffers *buffers)
+/* Gives the first image to the other implementations too. */
+static void hand_on(struct buffers *buffers)
+{
+    for (int k = 1; k < IMPLEMENTATIONS; k++)
+        memcpy(buffers[k].image, buffers[0].image, sizeof buffers[0].image);
+}
+
+/* Makes one call on a damaged image, and puts the image back as it was. */
+static void compare_damaged(struct tally *tally, struct buffers *buffers, const struct call *c)
 {
     static uint8_t kept[sizeof buffers[0].image];
+    memcpy(kept, buffers[0].image, sizeof kept);
+    damage(buffers[0].image);
+    hand_on(buffers);
+    compare_call(tally, buffers, c);
+    memcpy(buffers[0].image, kept, sizeof kept);
+    hand_on(buffers);
+}
+
+/* A list of calls from a start on. Now and then a counter gets another count of proofs, and goes on with it; now and then the image is damaged
+ * for one call. */
+static void compare_list(struct tally *tally, struct buffers *buffers)
+{
     static const uint32_t lengths[] = {20, 60, 200, 200, 3000};
     uint32_t length = lengths[below(32) == 0 ? 4 : below(4)];
-    struct habit habit = {.ids = 1 + below(100), .opens = 1 + below(30), .confirms = below(3) * below(3), .closes = below(3) * below(4)};
+    struct habit habit = some_habit();
     struct call c = {.kind = START, .image_len = VMC_IMAGE_LEN};
 
+    damage(buffers[0].image); /* start writes over whatever there was */
+    hand_on(buffers);
     c.reading = below(8) == 0 ? UINT32_MAX - below(length) : below(UINT32_MAX);
     compare_call(tally, buffers, &c);
     for (uint32_t i = 0; i < length; i++) {
-        bool damaged = below(16) == 0;
+        if (below(100) < habit.counts) {
+            set_count(buffers[0].image);
+            hand_on(buffers);
+        }
         choose(&c, buffers[0].image, &habit);
-        memcpy(kept, buffers[0].image, sizeof kept);
-        if (damaged)
-            damage(buffers[0].image);
-        for (int k = 1; damaged && k < IMPLEMENTATIONS; k++)
-            memcpy(buffers[k].image, buffers[0].image, sizeof kept);
-        compare_call(tally, buffers, &c);
-        for (int k = 0; damaged && k < IMPLEMENTATIONS; k++)
-            memcpy(buffers[k].image, kept, sizeof kept);
+        if (below(16) == 0)
+            compare_damaged(tally, buffers, &c);
+        else
+            compare_call(tally, buffers, &c);
     }
 }
 
+/* The reports below print what was met, and say whether nothing was left out that has to be. */
+
+static bool report_calls(const struct tally *tally)
+{
+    bool all_met = tally->with_openings > 0;
+    printf("%lu calls in %d lists compared, %lu differences. Calls by number: 0:%lu", tally->calls, LISTS, tally->differing, tally->met[0]);
+    for (int number = FIRST_NUMBER; number < NUMBERS; number++) {
+        if (number == LINE_NUMBER)
+            continue;
+        printf(" %d:%lu", number, tally->met[number]);
+        all_met = all_met && tally->met[number] > 0;
+    }
+    for (int kind = 0; kind < KINDS; kind++)
+        all_met = all_met && tally->done[kind] > 0;
+    printf("; with openings: %lu\n", tally->with_openings);
+    return all_met;
+}
+
+static bool report_closes(const struct tally *tally)
+{
+    bool all_met = tally->cutting > 0 && tally->leaving_entries > 0 && tally->leaving_none > 0 && tally->reopened > 0;
+    printf("Closes by number:");
+    for (size_t i = 0; i < sizeof close_numbers / sizeof close_numbers[0]; i++) {
+        printf(" %d:%lu", close_numbers[i], tally->closes[close_numbers[i]]);
+        all_met = all_met && tally->closes[close_numbers[i]] > 0;
+    }
+    printf("; %lu cut the log, %lu left entries of their counter, %lu left no counter. Opened though the log names it: %lu\n",
+           tally->cutting, tally->leaving_entries, tally->leaving_none, tally->reopened);
+    return all_met;
+}
+
+static bool report_proofs(const struct tally *tally)
+{
+    printf("Proofs written: %lu, with the count at the ceiling %lu, up to it %lu, with %d counters or more %lu. Closes that gave a count over 0: "
+           "%lu, the ceiling %lu, with %d counters or more %lu. Confirmations that kept a count over 0: %lu. Refused by the header's figure alone: "
+           "%lu\n",
+           tally->done[PROVE] + tally->done[LAST], tally->at_ceiling, tally->to_ceiling, MANY, tally->among_many, tally->charged,
+           tally->charged_ceiling, MANY, tally->charged_among_many, tally->kept, tally->by_header_figure);
+    return tally->at_ceiling > 0 && tally->to_ceiling > 0 && tally->among_many > 0 && tally->charged > 0 && tally->charged_ceiling > 0 &&
+           tally->charged_among_many > 0 && tally->kept > 0 && tally->by_header_figure > 0;
+}
+
 /* Whether all implementations agree on all calls, every number was met, so were openings, every call was done at least once, and all that
- * is counted of close was met. */
+ * is counted of closes and of counts of proofs was met. */
 static bool compare(struct buffers *buffers)
 {
     struct tally tally = {0};
@@ -395,28 +559,10 @@ static bool compare(struct buffers *buffers)
     for (int i = 0; i < LISTS; i++)
         compare_list(&tally, buffers);
 
-    printf("%lu calls in %d lists compared, %lu differences. Calls by number: 0:%lu", tally.calls, LISTS, tally.differing, tally.met[0]);
-    bool all_met = true;
-    for (int number = FIRST_NUMBER; number < NUMBERS; number++) {
-        if (number == LINE_NUMBER)
-            continue;
-        printf(" %d:%lu", number, tally.met[number]);
-        all_met = all_met && tally.met[number] > 0;
-    }
-    for (int kind = 0; kind < KINDS; kind++)
-        all_met = all_met && tally.done[kind] > 0;
-    printf("; with openings: %lu\n", tally.with_openings);
-    all_met = all_met && tally.with_openings > 0;
-    printf("Closes by number:");
-    for (size_t i = 0; i < sizeof close_numbers / sizeof close_numbers[0]; i++) {
-        printf(" %d:%lu", close_numbers[i], tally.closes[close_numbers[i]]);
-        all_met = all_met && tally.closes[close_numbers[i]] > 0;
-    }
-    printf("; %lu cut the log, %lu left entries of their counter, %lu left no counter. Opened though the log names it: %lu\n",
-           tally.cutting, tally.leaving_entries, tally.leaving_none, tally.reopened);
-    all_met = all_met && tally.cutting > 0 && tally.leaving_entries > 0 && tally.leaving_none > 0 && tally.reopened > 0;
+    bool calls_met = report_calls(&tally), closes_met = report_closes(&tally), proofs_met = report_proofs(&tally);
+    bool all_met = calls_met && closes_met && proofs_met;
     if (!all_met)
-        printf("error: a number, openings or something that a close leads to was never met, or a call was never done\n");
+        printf("error: a number, openings or something of a close or of a count of proofs was never met, or a call was never done\n");
     return tally.differing == 0 && all_met;
 }
 

@@ -1,9 +1,9 @@
 /*
  * A server's day: the host keeps an image and sets out proofs, the desk judges them. The first twelve calls are document 01's example of the
  * program, and each prints a line as it does there: number and value, of the desk where a proof was written. Behind read's stand its
- * openings. Then one more raise, shown by its own increment, and what the dock's display shows: every counter with its current value, found
- * in the image without a call. At the end box 7 is retired: its counter is closed, and what stays is counter 9, with a log that still names
- * counter 7.
+ * openings. Then one more raise, shown by its own increment, and what the dock's display shows: every counter with its current value and the
+ * proofs written for it so far, found in the image without a call. At the end box 7 is retired: its counter is closed, its carrier gets an
+ * invoice for the proofs, and what stays is counter 9, with a log that still names counter 7.
  */
 #include "vmc.h"
 
@@ -22,6 +22,11 @@ static void print(uint32_t number, uint32_t value)
     printf("%u %u\n", (unsigned)number, (unsigned)value);
 }
 
+static void print_three(uint32_t first, uint32_t second, uint32_t third)
+{
+    printf("%u %u %u\n", (unsigned)first, (unsigned)second, (unsigned)third);
+}
+
 static void answer(vmc_host_figures figures)
 {
     print(figures.number, figures.value);
@@ -29,7 +34,7 @@ static void answer(vmc_host_figures figures)
 
 static void answer_read(vmc_host_read_figures figures)
 {
-    printf("%u %u %u\n", (unsigned)figures.number, (unsigned)figures.value, (unsigned)figures.openings);
+    print_three(figures.number, figures.value, figures.openings);
 }
 
 /* Hands the proof that a call wrote to the desk, every signature holding. */
@@ -66,6 +71,14 @@ static vmc_host_figures prove(uint8_t b, uint32_t id)
     return vmc_host_prove(image, sizeof image, nonce(b), VMC_NONCE_LEN, id, proof, sizeof proof);
 }
 
+/* Carriers pay per proof, and a close gives how many were written for its counter. */
+static void invoice(vmc_host_figures closed, uint32_t id)
+{
+    answer(closed);
+    if (closed.number == 0)
+        printf("invoice: box %u, %u proofs\n", (unsigned)id, (unsigned)closed.value);
+}
+
 static uint32_t number_at(size_t at)
 {
     return (uint32_t)image[at] << 24 | (uint32_t)image[at + 1] << 16 | (uint32_t)image[at + 2] << 8 | image[at + 3];
@@ -75,7 +88,7 @@ static void display(void)
 {
     for (uint32_t i = 0; i < number_at(VMC_IMAGE_COUNTERS); i++) {
         size_t record = VMC_IMAGE_RECORDS + (size_t)VMC_RECORD_LEN * i;
-        print(number_at(record), number_at(record + VMC_RECORD_CURRENT));
+        print_three(number_at(record), number_at(record + VMC_RECORD_CURRENT), number_at(record + VMC_RECORD_PROOFS));
     }
 }
 
@@ -101,9 +114,9 @@ int main(void)
     display();
 
     answer_read(vmc_host_read(image, sizeof image, 7));
-    answer(vmc_host_close(image, sizeof image, 7, 104, 104, 1)); /* its current value, at the clock */
-    answer_read(vmc_host_read(image, sizeof image, 7));          /* not held any more */
-    answer(vmc_host_open(image, sizeof image, 7, 103, 103, 1));  /* the log still has its entry at 104, which counter 9 needs */
+    invoice(vmc_host_close(image, sizeof image, 7, 104, 104, 1), 7); /* its current value, at the clock */
+    answer_read(vmc_host_read(image, sizeof image, 7));              /* not held any more */
+    answer(vmc_host_open(image, sizeof image, 7, 103, 103, 1));      /* the log still has its entry at 104, which counter 9 needs */
     show(prove(9, 9), 9, nonce(9));
     display();
 

@@ -1,7 +1,8 @@
 /*
  * The desk and the host for C and C++: document 01's "The desk", which verifies a validity proof of a counter, and "The host", which keeps
- * the server's log image and sets such proofs out; the openings are those of Note 1 of document 02, the image's form that of Note 2, close
- * that of Note 4, and an entry that its owner did not sign is passed over by Note 5. (The documents call a counter a box.)
+ * the server's log image and sets such proofs out; the openings are those of Note 1 of document 02, the current value in a record is that of
+ * Note 2, close that of Note 4, an entry that its owner did not sign is passed over by Note 5, and image form and count of proofs are those of
+ * Note 6. (The documents call a counter a box.)
  *
  * To link, on x86-64 Linux, from the top of the repository:
  *
@@ -88,22 +89,27 @@ vmc_desk_figures vmc_desk_verify(const uint8_t *proof, size_t proof_len,
 
 /* ---- the host */
 
-/* An image has exactly this many bytes. Its form is 3; an image of another form is not sound. */
-#define VMC_IMAGE_LEN 33820u
+/* An image has exactly this many bytes. Its form is 4; an image of another form is not sound. */
+#define VMC_IMAGE_LEN 34076u
 
 /*
- * Where a display that can't walk the log finds the counters' current values. All numbers have four bytes, the highest first.
+ * Where a display that can't walk the log finds the counters' current values, and an account the proofs written for each. All numbers have four
+ * bytes, the highest first.
  *
  * At VMC_IMAGE_COUNTERS stands how many counters are held. Each has a record, in order of opening, the first at VMC_IMAGE_RECORDS and the next
- * one VMC_RECORD_LEN behind it. A record begins with the counter's number, and at VMC_RECORD_CURRENT in it, its last four bytes, stands the
- * counter's current value: in a sound image what vmc_host_read gives for that number. A record is known by its number and not by its place:
- * where a counter is closed, the records behind it move up. Every image that the calls below leave is sound; whether another one is, read
- * itself says: it answers 14 where it is not.
+ * one VMC_RECORD_LEN behind it. A record begins with the counter's number. At VMC_RECORD_CURRENT in it stands the counter's current value: in a
+ * sound image what vmc_host_read gives for that number. At VMC_RECORD_PROOFS, its last four bytes, stands how many proofs prove and last wrote
+ * for the counter since it was opened; that figure stops at 4,294,967,295. A record is known by its number and not by its place: where a counter
+ * is closed, the records behind it move up.
+ *
+ * Every image that the calls below leave is sound; whether another one is, read itself says: it answers 14 where it is not. But nothing in an
+ * image speaks for or against the count of proofs, so that any is sound: it is right as long as these calls alone write the image.
  */
 #define VMC_IMAGE_COUNTERS 8u
 #define VMC_IMAGE_RECORDS 28u
-#define VMC_RECORD_LEN 16u
+#define VMC_RECORD_LEN 20u
 #define VMC_RECORD_CURRENT 12u
+#define VMC_RECORD_PROOFS 16u
 
 /*
  * A host call's answer; read has one of its own, with a figure more.
@@ -159,7 +165,8 @@ typedef struct vmc_host_read_figures {
 /* Writes an image with a clock and no counters over whatever the buffer held. Gives the clock. */
 vmc_host_figures vmc_host_start(uint8_t *image, size_t image_len, uint32_t clock);
 
-/* Takes up a counter by its owner's confirmation, whose value is its current one. Gives how many counters are held.
+/* Takes up a counter by its owner's confirmation, whose value is its current one. Its proofs are counted from 0 on, also where it was held and
+ * closed before. Gives how many counters are held.
  *
  * A counter that was closed may be taken up again, but by 28 not at a reading before an entry that the log still has of it. What the desk shows
  * of a counter is known to be right only where its number is opened once: the host does not see to that, so a new box gets a new number. */
@@ -176,19 +183,22 @@ vmc_host_figures vmc_host_increment(uint8_t *image, size_t image_len, const uint
 /* Gives a counter's current value, and its openings. Nothing is written. */
 vmc_host_read_figures vmc_host_read(const uint8_t *image, size_t image_len, uint32_t id);
 
-/* Writes a proof of kind 1 up to the clock, which was read with the nonce, to the front of the output. Gives its length. */
+/* Writes a proof of kind 1 up to the clock, which was read with the nonce, to the front of the output, and counts it: one proof more in the
+ * counter's own record, unless the figure there is 4,294,967,295 already, which stays. Gives the proof's length. */
 vmc_host_figures vmc_host_prove(uint8_t *image, size_t image_len, const uint8_t *nonce, size_t nonce_len, uint32_t id, uint8_t *out,
                                 size_t out_len);
 
-/* Writes a proof of kind 2 up to the counter's entry with reading t to the front of the output. Gives its length. */
+/* Writes a proof of kind 2 up to the counter's entry with reading t to the front of the output, and counts it as prove does. Gives the proof's
+ * length. */
 vmc_host_figures vmc_host_last(uint8_t *image, size_t image_len, uint32_t id, uint32_t t, uint8_t *out, size_t out_len);
 
-/* Replaces a counter's confirmation by a later one and drops the entries that no counter needs. The current value stays. Gives how many entries
- * are left. */
+/* Replaces a counter's confirmation by a later one and drops the entries that no counter needs. The current value stays, and so does the count
+ * of proofs. Gives how many entries are left. */
 vmc_host_figures vmc_host_confirm(uint8_t *image, size_t image_len, uint32_t id, uint32_t value, uint32_t reading, uint32_t verdict);
 
 /* Gives a counter up by its owner's confirmation of its current value at the clock: its record goes, the later ones move up, and the entries
- * that no counter left needs are dropped. Its own entries stay where another counter needs them. Gives how many counters are left.
+ * that no counter left needs are dropped. Its own entries stay where another counter needs them. Gives how many proofs were written for it since
+ * it was opened, as its record had it: the figure goes with the record, so whoever charges for proofs takes it from here. It may be 0.
  *
  * Refuses by 14 to 17, 21 and 22, and then leaves the image as it was. */
 vmc_host_figures vmc_host_close(uint8_t *image, size_t image_len, uint32_t id, uint32_t value, uint32_t reading, uint32_t verdict);

@@ -6,55 +6,29 @@ use mathlib.Core.Path.{_≡_, refl, sym, ap, ap₂, subst, _∙_}
 use mathlib.Core.List.{List, [], _∷_}
 use native.Mathlib.Omega.{arith}
 use lib.Dec.{lit<}
-use lib.ListN.{length, take, replicate}
+use lib.ListN.{take, replicate}
 use Rattle.forms.specs.Bytes.{same}
 use Rattle.forms.specs.Chain.{step, runningAfter, ownEntries}
 use Rattle.forms.specs.Entry.{entryOf}
 use Rattle.forms.specs.PartsLaws.{ConfirmationFits}
 use Rattle.forms.specs.Terms.{counterId, globalClock}
-use Rattle.forms.specs.declared.confirmation.Confirmation.{Confirmation}
 use Rattle.forms.specs.declared.entry.Entry.{Entry}
 use Rattle.forms.specs.declared.running.Running.{Running}
 use Rattle.forms.specs.declared.terms.CounterId.{CounterId}
-use Rattle.validity.specs.Proof.{shapeOf, proofLen}
 use Rattle.grammar.specs.Command.{argumentsOf, named, byWords}
 use Rattle.grammar.specs.declared.command.Arguments.{Arguments}
 use Rattle.grammar.specs.declared.command.Command.{Command}
-use Rattle.log_image.specs.FitLaws.{start-fits}
-use Rattle.log_image.specs.ImageRoundTrip.{decode-encode}
 use Rattle.log_image.specs.Sound.{holds, oldest, after, ending}
 use Rattle.log_image.specs.State.{Record, State, decode}
-use Rattle.host.specs.Host.{Settled, recordOf, runningOf, openRefusal, incrementRefusal, readRefusal, proveRefusal, closeRefusal, opened, updated, incremented, counted, without, closedState, proofOf, answered, settled, startCall, openCall, closeCall, proveOutput}
-use Rattle.host.specs.RaiseLaws.{started-sound}
-use Rattle.host.specs.SettledLaws.{answered-done, settled-refused, settled-done}
+use Rattle.host.specs.Host.{Settled, recordOf, runningOf, openRefusal, incrementRefusal, readRefusal, updated, incremented, without, proofOf, answered, openCall, proveOutput}
+use Rattle.host.specs.SettledLaws.{answered-done, settled-refused}
 use Rattle.host.specs.declared.answer.Figures.{Figures}
 use Rattle.console.specs.Step.{ran}
 use Rattle.assurance.specs.HostList.{HostCall, settledBy, Taken, readRunning, Fair, Runs}
-use Rattle.assurance.specs.HostListWitness.{nonceOf, nonce-bytes, blank, blank-long, start-image}
+use Rattle.assurance.specs.HostListWitness.{nonceOf, nonce-bytes, blank, blank-long}
 use Rattle.assurance.specs.HostProof.{host-claim}
-use Rattle.assurance.specs.HostSteps.{Kept, Steady, steady-kept, open-steady, increment-steady, counted-steady, close-steady}
-
--- ---- a place in a list of calls
-
--- an image that every call may be handed, and the state that it says
-pub record Stands (s : List ℕ) (st : State) : Type 0 where
-  pub kept : Kept s
-  pub says : decode s ≡ st
-
--- a call there that is not refused: what it answers, and where it leads
-pub record Done (r : Settled) (value : ℕ) (next : State) : Type 0 where
-  pub answers : r .figures ≡ record { number = 0; value = value }
-  pub leads : Stands (r .image) next
-
-done : {s : List ℕ} {st : State} (number value : State → ℕ) (next : State → State) {to : State} → Stands s st → number st ≡ 0 → Steady (next (decode s)) → next st ≡ to
-    → Done (settled s (number (decode s)) (value (decode s)) (next (decode s))) (value st) to
-done {s} {st} number value next {to} here none steady becomes =
-    let e = settled-done s (number (decode s)) (value (decode s)) (next (decode s)) (here .kept .is-sound) (ap number (here .says) ∙ none) in
-    record {
-      answers = ap (λ (r : Settled). r .figures) e ∙ ap (λ (x : State). record { number = 0; value = value x }) (here .says);
-      leads = subst (λ (image : List ℕ). Stands image to) (sym (ap (λ (r : Settled). r .image) e))
-          (record { kept = steady-kept (next (decode s)) steady; says = decode-encode (next (decode s)) (steady .1) ∙ ap next (here .says) ∙ becomes });
-    }
+use Rattle.assurance.specs.HostSteps.{increment-steady}
+use Rattle.assurance.specs.Places.{Stands, Done, done, begun-image, begun-here, signed, confirmed-fits, opening, opens, proves, closing, closes}
 
 -- ---- the counters
 
@@ -64,19 +38,15 @@ seven = counterId 7
 abbrev nine : CounterId
 nine = counterId 9
 
--- a confirmation of a counter with a value that is its reading
-abbrev signed : CounterId → ℕ → Confirmation
-signed id t = record { id = id; value = t; reading = globalClock t }
-
-abbrev recordWith : CounterId → ℕ → ℕ → Record
-recordWith id t current = record { held = signed id t; current = current }
+abbrev recordWith : CounterId → ℕ → ℕ → ℕ → Record
+recordWith id t current proofs = record { held = signed id t; current = current; proofs = proofs }
 
 -- the entry of a raise of 7, with the nonce of a byte
 abbrev raiseAt : ℕ → ℕ → ℕ → Entry
 raiseAt t before b = record { reading = globalClock t; nonce = nonceOf b; id = seven; before = before }
 
-abbrev state : ℕ → List Record → List Entry → ℕ → State
-state clock records log written = record { clock = globalClock clock; records = records; log = log; written = written }
+abbrev state : ℕ → List Record → List Entry → State
+state clock records log = record { clock = globalClock clock; records = records; log = log }
 
 -- room for a proof of two entries
 abbrev room : List ℕ
@@ -85,46 +55,37 @@ room = replicate {A = ℕ} 124 0
 -- ---- the states along the list
 
 -- counter 7 is opened at the clock of the start, and raised
-abbrev begun : State
-begun = state 100 [] [] 0
-
 abbrev holding : State
-holding = state 100 (recordWith seven 100 100 ∷ []) [] 0
+holding = state 100 (recordWith seven 100 100 0 ∷ []) []
 
 abbrev raised : State
-raised = state 101 (recordWith seven 100 101 ∷ []) (raiseAt 101 100 1 ∷ []) 0
+raised = state 101 (recordWith seven 100 101 0 ∷ []) (raiseAt 101 100 1 ∷ [])
 
 -- counter 9 is opened; then 7 is raised again, and a proof of 9 written
 abbrev holding-both : State
-holding-both = state 101 (recordWith seven 100 101 ∷ recordWith nine 101 101 ∷ []) (raiseAt 101 100 1 ∷ []) 0
+holding-both = state 101 (recordWith seven 100 101 0 ∷ recordWith nine 101 101 0 ∷ []) (raiseAt 101 100 1 ∷ [])
 
 abbrev twice-raised : ℕ → State
-twice-raised written = state 102 (recordWith seven 100 102 ∷ recordWith nine 101 101 ∷ []) (raiseAt 101 100 1 ∷ raiseAt 102 101 2 ∷ []) written
+twice-raised proofs = state 102 (recordWith seven 100 102 0 ∷ recordWith nine 101 101 proofs ∷ []) (raiseAt 101 100 1 ∷ raiseAt 102 101 2 ∷ [])
 
 -- 7 is closed: of its entries that at 101 falls away, and that at 102, which 9 needs, stays
 abbrev closed : State
-closed = state 102 (recordWith nine 101 101 ∷ []) (raiseAt 102 101 2 ∷ []) 1
+closed = state 102 (recordWith nine 101 101 1 ∷ []) (raiseAt 102 101 2 ∷ [])
 
 -- 7 is opened again, behind 9, and raised
 abbrev reopened : State
-reopened = state 102 (recordWith nine 101 101 ∷ recordWith seven 102 102 ∷ []) (raiseAt 102 101 2 ∷ []) 1
+reopened = state 102 (recordWith nine 101 101 1 ∷ recordWith seven 102 102 0 ∷ []) (raiseAt 102 101 2 ∷ [])
 
 abbrev raised-anew : State
-raised-anew = state 103 (recordWith nine 101 101 ∷ recordWith seven 102 103 ∷ []) (raiseAt 102 101 2 ∷ raiseAt 103 102 4 ∷ []) 1
+raised-anew = state 103 (recordWith nine 101 101 1 ∷ recordWith seven 102 103 0 ∷ []) (raiseAt 102 101 2 ∷ raiseAt 103 102 4 ∷ [])
 
 -- ---- the calls
-
-abbrev opening : CounterId → ℕ → HostCall
-opening id t = HostCall.«open» (signed id t) 1
 
 abbrev raising : ℕ → ℕ → HostCall
 raising b before = HostCall.increment (nonceOf b) seven before 1
 
 abbrev proving : ℕ → HostCall
 proving b = HostCall.prove (nonceOf b) nine room
-
-abbrev closing : HostCall
-closing = HostCall.close (signed seven 102) 1
 
 abbrev pub calls : List HostCall
 calls =
@@ -133,7 +94,7 @@ calls =
     ∷ opening nine 101
     ∷ raising 2 101
     ∷ proving 3
-    ∷ closing
+    ∷ closing seven 102
     ∷ opening seven 101
     ∷ opening seven 102
     ∷ raising 4 102
@@ -141,9 +102,6 @@ calls =
     ∷ []
 
 -- ---- the images along it
-
-pub begun-image : List ℕ
-begun-image = startCall blank (globalClock 100) .image
 
 pub holding-image : List ℕ
 holding-image = settledBy begun-image (opening seven 100) .image
@@ -161,7 +119,7 @@ pub shown-image : List ℕ
 shown-image = settledBy twice-image (proving 3) .image
 
 pub closed-image : List ℕ
-closed-image = settledBy shown-image closing .image
+closed-image = settledBy shown-image (closing seven 102) .image
 
 pub refused-image : List ℕ
 refused-image = settledBy closed-image (opening seven 101) .image
@@ -174,35 +132,12 @@ anew-image = settledBy reopened-image (raising 4 102) .image
 
 -- ---- each call
 
-confirmed-fits : (id t : ℕ) → id < 4294967296 → t < 4294967296 → ConfirmationFits (signed (counterId id) t)
-confirmed-fits id t small low = record { id = small; value = low; reading = low }
-
-begun-here : Stands begun-image begun
-unfolding begun-image
-begun-here =
-    subst (λ (image : List ℕ). Stands image begun) (sym start-image)
-    (record { kept = steady-kept begun (started-sound (globalClock 100), start-fits (globalClock 100) (lit< tt)); says = decode-encode begun (start-fits (globalClock 100) (lit< tt)) })
-
-opens : {s : List ℕ} {st to : State} (id : CounterId) (t : ℕ) → ConfirmationFits (signed id t) → Stands s st → openRefusal st (signed id t) 1 ≡ 0 → opened st (signed id t) ≡ to
-    → Done (settledBy s (opening id t)) (length (st .records) + 1) to
-opens {s} {st} id t fits here none becomes =
-    done (λ x. openRefusal x (signed id t) 1) (λ x. length (x .records) + 1) (λ x. opened x (signed id t)) here none
-    (open-steady s (here .kept) (signed id t) 1 fits (ap (λ (x : State). openRefusal x (signed id t) 1) (here .says) ∙ none)) becomes
-
 raises : {s : List ℕ} {st to : State} (b value : ℕ) → b < 256 → value < 4294967296 → Stands s st → incrementRefusal st (nonceOf b) seven value 1 ≡ 0
     → incremented st (nonceOf b) seven value ≡ to → Done (settledBy s (raising b value)) (st .clock .0 + 1) to
 raises {s} {st} b value byte small here none becomes =
     done (λ x. incrementRefusal x (nonceOf b) seven value 1) (λ x. x .clock .0 + 1) (λ x. incremented x (nonceOf b) seven value) here none
     (increment-steady s (here .kept) (nonceOf b) seven value 1 (nonce-bytes b byte) (lit< tt) small
     (ap (λ (x : State). incrementRefusal x (nonceOf b) seven value 1) (here .says) ∙ none)) becomes
-
-abbrev proveLen : ℕ → State → ℕ
-proveLen b st = proofLen (shapeOf (proofOf st (nonceOf b) nine))
-
-proves : {s : List ℕ} {st to : State} (b : ℕ) → Stands s st → proveRefusal st (nonceOf b) nine (proveLen b st) (length room) ≡ 0 → counted st ≡ to
-    → Done (settledBy s (proving b)) (proveLen b st) to
-proves {s} b here none becomes =
-    done (λ x. proveRefusal x (nonceOf b) nine (proveLen b x) (length room)) (proveLen b) counted here none (counted-steady s (here .kept)) becomes
 
 -- ---- up to the closing
 
@@ -240,8 +175,8 @@ twice-here = raise-twice .leads
 
 -- the first proof: a header, a confirmation, a certificate and an entry
 prove-before : Done (settledBy twice-image (proving 3)) 92 (twice-raised 1)
-unfolding holds recordOf oldest after
-prove-before = proves 3 twice-here refl refl
+unfolding holds recordOf updated oldest after
+prove-before = proves 3 nine room twice-here refl refl
 
 shown-here : Stands shown-image (twice-raised 1)
 unfolding shown-image
@@ -249,16 +184,14 @@ shown-here = prove-before .leads
 
 -- ---- the closing
 
--- one counter is left, and of two entries one
-pub closes : Done (closeCall shown-image (signed seven 102) 1) 1 closed
+-- one counter is left, and of two entries one; no proof was written for 7
+pub closing-done : Done (settledBy shown-image (closing seven 102)) 0 closed
 unfolding holds recordOf ending oldest after runningAfter step without
-closes =
-    done (λ x. closeRefusal x (signed seven 102) 1) (λ x. length (closedState x seven .records)) (λ x. closedState x seven) shown-here refl
-    (close-steady shown-image (shown-here .kept) (signed seven 102) 1 (ap (λ (x : State). closeRefusal x (signed seven 102) 1) (shown-here .says))) refl
+closing-done = closes seven 102 shown-here refl refl
 
 closed-here : Stands closed-image closed
 unfolding closed-image
-closed-here = closes .leads
+closed-here = closing-done .leads
 
 -- at 101 it is not opened again, since the entry at 102 names it: the image stays as it was
 pub refuses : openCall closed-image (signed seven 101) 1 ≡ record { figures = record { number = 28; value = 0 }; image = closed-image }
@@ -296,9 +229,9 @@ unfolding Runs begun-image holding-image raised-image both-image twice-image sho
 claimed =
     let widths : (id t : ℕ) → id < 4294967296 → t < 4294967296 → ConfirmationFits (signed (counterId id) t) = confirmed-fits in
     let start : Runs begun-image calls = host-claim blank (globalClock 100) calls blank-long (lit< tt) in
-    let one : Runs raised-image (opening nine 101 ∷ raising 2 101 ∷ proving 3 ∷ closing ∷ opening seven 101 ∷ opening seven 102 ∷ raising 4 102 ∷ proving 5 ∷ []) =
+    let one : Runs raised-image (opening nine 101 ∷ raising 2 101 ∷ proving 3 ∷ closing seven 102 ∷ opening seven 101 ∷ opening seven 102 ∷ raising 4 102 ∷ proving 5 ∷ []) =
     start (widths 7 100 (lit< tt) (lit< tt)) .2 (nonce-bytes 1 (lit< tt), lit< tt, lit< tt) .2 in
-    let two : Runs twice-image (proving 3 ∷ closing ∷ opening seven 101 ∷ opening seven 102 ∷ raising 4 102 ∷ proving 5 ∷ []) =
+    let two : Runs twice-image (proving 3 ∷ closing seven 102 ∷ opening seven 101 ∷ opening seven 102 ∷ raising 4 102 ∷ proving 5 ∷ []) =
     one (widths 9 101 (lit< tt) (lit< tt)) .2 (nonce-bytes 2 (lit< tt), lit< tt, lit< tt) .2 in
     let first = two (nonce-bytes 3 (lit< tt), lit< tt) in
     let three : Runs closed-image (opening seven 101 ∷ opening seven 102 ∷ raising 4 102 ∷ proving 5 ∷ []) = first .2 (widths 7 102 (lit< tt) (lit< tt)) .2 in
@@ -334,8 +267,8 @@ taken-before = shows 3 twice-here prove-before (claimed .0) refl refl
 
 -- and after it 124, with an entry of the closed counter and one of the reopened, and shows 101 at 103
 pub taken-after : Taken (take 124 (proveOutput anew-image (nonceOf 5) nine room)) (proofOf raised-anew (nonceOf 5) nine) nine (nonceOf 5) unraised (globalClock 103)
-unfolding holds recordOf ending oldest after runningAfter step
-taken-after = shows 5 anew-here (proves 5 anew-here refl refl) (claimed .1) refl refl
+unfolding holds recordOf updated ending oldest after runningAfter step
+taken-after = shows 5 anew-here (proves 5 nine room anew-here refl refl) (claimed .1) refl refl
 
 -- ---- the program
 

@@ -53,7 +53,7 @@ module _ (s : List ℕ) (bytes : Bytes s) (id : CounterId) (id-fits : id .0 < 2 
   prove-call-accepted nonce room e =
       let st : State = decode s in
       let len : ℕ = proofLen (shapeOf (proofOf st nonce id)) in
-      let passed = settled-passed s (proveRefusal st nonce id len room) len (counted st) e in
+      let passed = settled-passed s (proveRefusal st nonce id len room) len (counted st id) e in
       let rows = prove-passed st nonce id len room (passed .1) in
       let state = state-sound (passed .0) in
       let given = read-answers (passed .0) (rows .named) (rows .held) in (
@@ -69,7 +69,7 @@ module _ (s : List ℕ) (bytes : Bytes s) (id : CounterId) (id-fits : id .0 < 2 
   last-call-accepted t room e =
       let st : State = decode s in
       let len : ℕ = proofLen (shapeOf (lastOf st id t)) in
-      let passed = settled-passed s (lastRefusal st id t len room) len (counted st) e in
+      let passed = settled-passed s (lastRefusal st id t len room) len (counted st id) e in
       let rows = last-passed st id t len room (passed .1) in
       let state = state-sound (passed .0) in
       last-accepted st id (state .0) (state .1) id-fits (rows .held) t (rows .has)

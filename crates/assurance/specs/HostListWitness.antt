@@ -21,15 +21,16 @@ use Rattle.forms.specs.declared.event.Carried.{Carried}
 use Rattle.forms.specs.declared.terms.CounterId.{CounterId}
 use Rattle.forms.specs.declared.terms.GlobalClock.{GlobalClock}
 use Rattle.validity.specs.Proof.{shapeOf, proofLen}
-use Rattle.log_image.specs.FitLaws.{start-fits, store-written-fits, append-record-fits}
+use Rattle.log_image.specs.FitLaws.{start-fits, append-record-fits}
 use Rattle.log_image.specs.ImageRoundTrip.{StateFits, decode-encode, encode-sound}
 use Rattle.log_image.specs.Sound.{holds, oldest, after, ending, soundState}
 use Rattle.log_image.specs.State.{State, recordsBytes, headerOf, decode, encode}
 use Rattle.host.specs.Host.{requestNonce, Settled, recordOf, runningOf, hasEntry, openRefusal, incrementRefusal, readRefusal, started, opened, updated, incremented, counted, proofOf, lastEntries, lastOf, settled, answered, startCall, openCall, incrementCall, readCall, proveCall, lastCall, proveOutput, lastOutput, proveRefusal, lastRefusal}
+use Rattle.host.specs.CountLaws.{counted-sound, counted-fits}
 use Rattle.host.specs.DisplayLaws.{display-reads}
 use Rattle.host.specs.IncrementStores.{raised-fits, incremented-fits}
 use Rattle.host.specs.OpenLaws.{opened-sound}
-use Rattle.host.specs.RaiseLaws.{started-sound, counted-sound, incremented-sound}
+use Rattle.host.specs.RaiseLaws.{started-sound, incremented-sound}
 use Rattle.host.specs.SettledLaws.{answered-done, settled-done}
 use Rattle.host.specs.declared.answer.Figures.{Figures}
 use Rattle.assurance.specs.HostList.{HostCall, Taken, readRunning, Runs}
@@ -93,7 +94,7 @@ abbrev asked : State
 asked = incremented holding (nonceOf 1) seven 100
 
 abbrev shown : State
-shown = counted asked
+shown = counted asked seven
 
 -- none of the calls is refused
 open-passes : openRefusal begun signed 1 ≡ 0
@@ -136,7 +137,7 @@ begun-fits : StateFits begun
 begun-fits = start-fits (globalClock 100) (lit< tt)
 
 holding-fits : StateFits holding
-holding-fits = append-record-fits begun begun-fits (taken signed) (record { held = record { id = lit< tt; value = lit< tt; reading = lit< tt }; current = lit< tt }) (lit< tt)
+holding-fits = append-record-fits begun begun-fits (taken signed) (record { held = record { id = lit< tt; value = lit< tt; reading = lit< tt }; current = lit< tt; proofs = lit< tt }) (lit< tt)
 
 asked-fits : StateFits asked
 asked-fits =
@@ -144,7 +145,7 @@ asked-fits =
     (raised-fits holding (Carried.Request seven 100) (nonceOf 1) holding-fits (nonce-bytes 1 (lit< tt)) refl (lit< tt, lit< tt) (lit< tt) (lit< tt))
 
 shown-fits : StateFits shown
-shown-fits = store-written-fits asked asked-fits 1 (lit< tt)
+shown-fits = counted-fits asked seven asked-fits
 
 begun-sound : soundState begun ≡ true
 begun-sound = started-sound (globalClock 100)
@@ -156,7 +157,7 @@ asked-sound : soundState asked ≡ true
 asked-sound = incremented-sound holding (nonceOf 1) seven 100 1 holding-sound raise-passes
 
 shown-sound : soundState shown ≡ true
-shown-sound = counted-sound asked asked-sound
+shown-sound = counted-sound asked seven asked-sound
 
 -- ---- the images along it
 
@@ -192,12 +193,12 @@ asked-image =
 
 -- what prove answers, and the image after it
 prove-ends : proveCall (encode asked) (nonceOf 2) seven (length room) ≡ record { figures = record { number = 0; value = proveLen asked }; image = encode shown }
-prove-ends = works asked asked-fits asked-sound (λ st. proveRefusal st (nonceOf 2) seven (proveLen st) (length room)) proveLen counted prove-passes
+prove-ends = works asked asked-fits asked-sound (λ st. proveRefusal st (nonceOf 2) seven (proveLen st) (length room)) proveLen (λ st. counted st seven) prove-passes
 
 -- what last answers
 last-ends : lastCall (encode shown) seven (globalClock 101) (length room)
-    ≡ record { figures = record { number = 0; value = lastLen shown }; image = encode (counted shown) }
-last-ends = works shown shown-fits shown-sound (λ st. lastRefusal st seven (globalClock 101) (lastLen st) (length room)) lastLen counted last-passes
+    ≡ record { figures = record { number = 0; value = lastLen shown }; image = encode (counted shown seven) }
+last-ends = works shown shown-fits shown-sound (λ st. lastRefusal st seven (globalClock 101) (lastLen st) (length room)) lastLen (λ st. counted st seven) last-passes
 
 -- what read shows where prove is called: 101, and one opening
 read-shows : readRunning (encode asked) seven ≡ record { value = 101; openings = 1 }
@@ -209,7 +210,7 @@ read-shows =
     ∙ answered-done (encode asked) (readRefusal asked seven) (part (runningOf asked seven)) (encode-sound asked asked-fits asked-sound) read-passes in
     ap₂ (λ (f g : Figures). record { value = f .value; openings = g .value }) (figures (λ r. r .value)) (figures (λ r. r .openings))
 
--- and so does the dock's display, which looks at the last four bytes of the first record, by the law that it relies on
+-- and so does the dock's display, which looks at the current value in the first record, by the law that it relies on
 pub display-shows : (be32 (encode asked) (currentPlace recordsOffset) ≡ 101) × (readCall (encode asked) seven .value ≡ 101)
 unfolding encode headerOf recordsBytes confirmationBytes updated
 display-shows = (refl, display-reads (encode asked) 0 (encode-sound asked asked-fits asked-sound) (lit< tt) .1)

@@ -83,14 +83,14 @@ module _ (s : List ℕ) (kept : Kept s) where
       let fields : Fields = proofOf st nonce id in
       let len : ℕ = proofLen (shapeOf fields) in
       let number : ℕ = proveRefusal st nonce id len (length output) in
-      let rows = prove-passed st nonce id len (length output) (settled-passed s number len (counted st) e .1) in
+      let rows = prove-passed st nonce id len (length output) (settled-passed s number len (counted st id) e .1) in
       let long : length (encode fields) ≡ len =
       read-length (heldOf st id) (record { reading = st .clock; nonce = nonce }) (length (entriesOf st id)) (logBytes (entriesOf st id)) (rows .long)
       (length-log (entriesOf st id) (entries-fit s kept id)) in
       let there = prove-call-accepted s (kept .bytes) id id-fits nonce (length output) e in (
         there .0,
         output-taken (proveCall s nonce id (length output) .figures) fields output id nonce _ (st .clock) e
-            (value-given s number len (counted st) e) long (there .1),
+            (value-given s number len (counted st id) e) long (there .1),
       )
 
   -- last shows the t asked for, and counts up to it
@@ -104,7 +104,7 @@ module _ (s : List ℕ) (kept : Kept s) where
       increment-length (heldOf st id) (length entries) (logBytes entries)
       (length-log entries (fit-take (entriesOf st id) (t .0 - heldOf st id .reading .0) (entries-fit s kept id))) in
       output-taken (lastCall s id t (length output) .figures) fields output id (requestNonce id t (st .log)) (lastRunning s id t) t e
-      (value-given s (lastRefusal st id t len (length output)) len (counted st) e) long
+      (value-given s (lastRefusal st id t len (length output)) len (counted st id) e) long
       (last-call-accepted s (kept .bytes) id id-fits t (length output) e)
 
   -- nothing is claimed of the values that other calls show

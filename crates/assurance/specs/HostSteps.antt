@@ -5,7 +5,7 @@ use mathlib.Core.Path.{_≡_, refl, sym, subst}
 use mathlib.Core.Bool.{Bool, true, false, not, cond, _&&_}
 use mathlib.Core.List.{List, [], _∷_}
 use native.Mathlib.Omega.{arith}
-use lib.Dec.{eqb}
+use lib.Dec.{eqb, lit<}
 use lib.ListN.{length}
 use borrow.Author.Tests.{eqb-true, eqb-false, eq-eqb, not-true}
 use Rattle.forms.specs.Bytes.{Bytes}
@@ -20,7 +20,7 @@ use Rattle.forms.specs.declared.event.Carried.{Carried}
 use Rattle.forms.specs.declared.terms.CounterId.{CounterId}
 use Rattle.forms.specs.declared.terms.GlobalClock.{GlobalClock}
 use Rattle.validity.specs.Proof.{shapeOf, proofLen}
-use Rattle.log_image.specs.FitLaws.{start-fits, store-clock-fits, store-written-fits, append-record-fits, drop-entries-fits}
+use Rattle.log_image.specs.FitLaws.{start-fits, store-clock-fits, append-record-fits, drop-entries-fits}
 use Rattle.log_image.specs.ImageRoundTrip.{StateFits, length-encode, encode-bytes, encode-sound, decode-fits, sound-decode, sound-laid-out}
 use Rattle.log_image.specs.Sound.{base, soundState, sound}
 use Rattle.log_image.specs.State.{State, decode, encode}
@@ -28,11 +28,12 @@ use Rattle.host.specs.CloseLaws.{closed-sound}
 use Rattle.host.specs.CloseStores.{without-fits}
 use Rattle.host.specs.ConfirmLaws.{confirmed-sound}
 use Rattle.host.specs.ConfirmStores.{replacedState, replaced-fits}
+use Rattle.host.specs.CountLaws.{counted-sound, counted-fits}
 use Rattle.host.specs.EffectLaws.{clock-runs, entry-room, record-room}
 use Rattle.host.specs.Host.{Settled, openRefusal, tickRefusal, incrementRefusal, confirmRefusal, closeRefusal, openRows, tickRows, incrementRows, readRows, proveRows, lastRows, confirmRows, closeRows, started, opened, raised, incremented, noneHeld, advanced, ticked, counted, confirmedState, withRecords, without, closedState, settled, startCall, readRefusal, currentOf, proofOf, lastOf, proveRefusal, lastRefusal, readCall}
 use Rattle.host.specs.IncrementStores.{raised-fits, incremented-fits}
 use Rattle.host.specs.OpenLaws.{opened-sound}
-use Rattle.host.specs.RaiseLaws.{started-sound, counted-sound, incremented-sound, ticked-sound}
+use Rattle.host.specs.RaiseLaws.{started-sound, incremented-sound, ticked-sound}
 use Rattle.host.specs.RefusalLaws.{open-passed, tick-passed, increment-passed, close-passed}
 use Rattle.host.specs.SettledLaws.{settled-refused, settled-done}
 use Rattle.assurance.specs.HostList.{HostCall, settledBy, Widths}
@@ -117,9 +118,9 @@ module _ (s : List ℕ) (kept : Kept s) where
   pub open-steady : (c : Confirmation) (verdict : ℕ) → ConfirmationFits c → openRefusal (decode s) c verdict ≡ 0 → Steady (opened (decode s) c)
   open-steady c verdict fits none =
       let p = open-passed (decode s) c verdict none in
-      (opened-sound (decode s) c verdict state-sound none, append-record-fits (decode s) state-fits (taken c) (record { held = fits; current = fits .value }) (record-room s (kept .bytes) (kept .is-sound) (p .room)))
+      (opened-sound (decode s) c verdict state-sound none, append-record-fits (decode s) state-fits (taken c) (record { held = fits; current = fits .value; proofs = lit< tt }) (record-room s (kept .bytes) (kept .is-sound) (p .room)))
 
-  tick-steady : (nonce : List ℕ) → Bytes nonce → tickRefusal (decode s) nonce ≡ 0 → Steady (ticked (decode s) nonce)
+  pub tick-steady : (nonce : List ℕ) → Bytes nonce → tickRefusal (decode s) nonce ≡ 0 → Steady (ticked (decode s) nonce)
   tick-steady nonce bytes none = (ticked-sound (decode s) nonce state-sound, go (noneHeld (decode s)))
     where
       running : decode s .clock .0 < largest
@@ -142,11 +143,10 @@ module _ (s : List ℕ) (kept : Kept s) where
             (clock-runs s (kept .bytes) (kept .is-sound) (p .running)) (entry-room s (kept .bytes) (kept .is-sound) (p .room))),
       )
 
-  -- the count of proofs stops at the largest number of 32 bits
-  pub counted-steady : Steady (counted (decode s))
-  counted-steady = (counted-sound (decode s) state-sound, store-written-fits (decode s) state-fits _ (omega arith))
+  pub counted-steady : (id : CounterId) → Steady (counted (decode s) id)
+  counted-steady id = (counted-sound (decode s) id state-sound, counted-fits (decode s) id state-fits)
 
-  confirm-steady : (c : Confirmation) (verdict : ℕ) → ConfirmationFits c → confirmRefusal (decode s) c verdict ≡ 0 → Steady (confirmedState (decode s) c)
+  pub confirm-steady : (c : Confirmation) (verdict : ℕ) → ConfirmationFits c → confirmRefusal (decode s) c verdict ≡ 0 → Steady (confirmedState (decode s) c)
   confirm-steady c verdict fits none =
       let st : State = decode s in
       let next : State = replacedState st c in
@@ -185,11 +185,11 @@ module _ (s : List ℕ) (kept : Kept s) where
   call-steps (HostCall.prove nonce id output) widths =
       settled-steps s (proveRefusal (decode s) nonce id _ (length output)) _ _ kept
       (rows-other (proveRows (decode s) nonce id (proofLen (shapeOf (proofOf (decode s) nonce id))) (length output)) refl)
-      (λ none. counted-steady)
+      (λ none. counted-steady id)
   call-steps (HostCall.last id t output) widths =
       settled-steps s (lastRefusal (decode s) id t _ (length output)) _ _ kept
       (rows-other (lastRows (decode s) id t (proofLen (shapeOf (lastOf (decode s) id t))) (length output)) refl)
-      (λ none. counted-steady)
+      (λ none. counted-steady id)
   call-steps (HostCall.confirm c verdict) widths =
       settled-steps s (confirmRefusal (decode s) c verdict) _ _ kept
       (rows-other (confirmRows (decode s) c verdict) refl)

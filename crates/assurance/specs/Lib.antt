@@ -16,7 +16,11 @@ pub mod HostListWitness
 pub mod HostProof
 pub mod HostProofs
 pub mod HostSteps
+pub mod Invoice
+pub mod InvoiceProof
+pub mod InvoiceWitness
 pub mod ListLaws
+pub mod Places
 pub mod ProgramLines
 pub mod ProgramList
 pub mod ProgramProof

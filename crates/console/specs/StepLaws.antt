@@ -120,8 +120,8 @@ module _ (s : List ℕ) (id : CounterId) where
       let st : State = decode s in
       let len : ℕ = proofLen (shapeOf (proofOf st nonce id)) in
       let number : ℕ = proveRefusal st nonce id len (length emptyOutput) in
-      let value = value-given s number len (counted st) done in
-      let rows = prove-passed st nonce id len (length emptyOutput) (settled-passed s number len (counted st) done .1) in
+      let value = value-given s number len (counted st id) done in
+      let rows = prove-passed st nonce id len (length emptyOutput) (settled-passed s number len (counted st id) done .1) in
       (value, omega (arith, value, rows .fits, output-long))
 
   pub last-written : (t : GlobalClock) →
@@ -131,8 +131,8 @@ module _ (s : List ℕ) (id : CounterId) where
       let st : State = decode s in
       let len : ℕ = proofLen (shapeOf (lastOf st id t)) in
       let number : ℕ = lastRefusal st id t len (length emptyOutput) in
-      let value = value-given s number len (counted st) done in
-      let rows = last-passed st id t len (length emptyOutput) (settled-passed s number len (counted st) done .1) in
+      let value = value-given s number len (counted st id) done in
+      let rows = last-passed st id t len (length emptyOutput) (settled-passed s number len (counted st id) done .1) in
       (value, omega (arith, value, rows .fits, output-long))
 
   -- where last was written, the log is an image's, and has the entry
@@ -143,7 +143,7 @@ module _ (s : List ℕ) (id : CounterId) where
       let st : State = decode s in
       let len : ℕ = proofLen (shapeOf (lastOf st id t)) in
       let number : ℕ = lastRefusal st id t len (length emptyOutput) in
-      let passed = settled-passed s number len (counted st) done in
+      let passed = settled-passed s number len (counted st id) done in
       let rows = last-passed st id t len (length emptyOutput) (passed .1) in
       found (log-few s id (passed .0) (rows .held)) (has-behind id t (decode s .log) (heldOf st id .reading .0 - base st) (rows .has))
 

@@ -1,5 +1,5 @@
 // What the depot knows of each counter, on a card for each place in the books: the reading of its opening, what its tablet holds, a slip, the
-// value that it was closed with, and whether its box is the second one at the place.
+// value that it was closed with, whether its box is the second one at the place, and the proofs that were written for it.
 use crate::module;
 use crate::plan::COUNTERS;
 use crate::plan::id_of;
@@ -10,7 +10,7 @@ use forms::terms::CounterId;
 use forms::terms::GlobalClock;
 ghost use Prim.Native.Nat.{_≤_};
 
-const CARD: usize = 32;
+const CARD: usize = 36;
 
 const FIRST: usize = module::END;
 
@@ -26,9 +26,11 @@ const CLOSED: usize = 24;
 
 const SECOND: usize = 28;
 
+const PROOFS: usize = 32;
+
 // Where a counter's card begins: at most where the last one does.
 fn card(place: u32) -> usize
-    ensures { λ r. ⌜ r ≤ 264164 ⌝ }
+    ensures { λ r. ⌜ r ≤ 264416 ⌝ }
 {
     FIRST + CARD * ((place % COUNTERS) as usize)
 }
@@ -38,8 +40,10 @@ pub(crate) fn opened(books: &[u8], place: u32) -> GlobalClock {
     GlobalClock(get_u32(books, card(place) + OPENED))
 }
 
+// Proofs are counted from the opening on.
 pub(crate) fn put_opened(books: &mut [u8], place: u32, reading: GlobalClock) {
     put_u32(books, card(place) + OPENED, reading.0);
+    put_u32(books, card(place) + PROOFS, 0);
 }
 
 // 0 where the counter is not closed.
@@ -49,6 +53,23 @@ pub(crate) fn closed(books: &[u8], place: u32) -> u32 {
 
 pub(crate) fn put_closed(books: &mut [u8], place: u32, value: u32) {
     put_u32(books, card(place) + CLOSED, value);
+}
+
+// Whether the counter is opened and not closed.
+pub(crate) fn is_held(books: &[u8], place: u32) -> bool {
+    opened(books, place).0 != 0 && closed(books, place) == 0
+}
+
+// How many proofs were written for the counter since its opening, by what the host answered to the calls for it.
+pub(crate) fn proofs(books: &[u8], place: u32) -> u32 {
+    get_u32(books, card(place) + PROOFS)
+}
+
+pub(crate) fn add_proof(books: &mut [u8], place: u32) {
+    let before = proofs(books, place);
+    if before < u32::MAX {
+        put_u32(books, card(place) + PROOFS, before + 1);
+    }
 }
 
 // Whether the place's first box was scrapped and another one came in its place.

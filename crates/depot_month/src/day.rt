@@ -10,6 +10,7 @@ use crate::plan::COUNTERS;
 use crate::plan::STEPS;
 use crate::plan::drawn;
 use crate::plan::tablet_away;
+use crate::prove::asked_without_room;
 use crate::raise::dock_raises;
 use crate::raise::tablet_raises;
 use crate::raise::ticked;
@@ -86,6 +87,18 @@ fn doubtful_raise(step: Step, image: &mut [u8], books: &mut [u8]) {
     dock_raises(step.place, verdict, image, books);
 }
 
+// One time in eight the proof for a handover is asked for with too little room first.
+fn cramped(step: Step, image: &mut [u8], books: &mut [u8]) {
+    if step.rest / 2 % 8 == 0 {
+        asked_without_room(step.place, image, books);
+    }
+}
+
+fn handover(step: Step, day: u32, image: &mut [u8], books: &mut [u8]) {
+    cramped(step, image, books);
+    handed_over(step.place, step.rest % 2 == 0, day, image, books);
+}
+
 // What each sixteenth of the numbers drawn stands for.
 fn carry_out(step: Step, day: u32, image: &mut [u8], books: &mut [u8]) {
     let place = step.place;
@@ -94,10 +107,7 @@ fn carry_out(step: Step, day: u32, image: &mut [u8], books: &mut [u8]) {
         0 => ticked(image, books),
         1..=8 => raised(step, day, image, books),
         9 => doubtful_raise(step, image, books),
-        10 | 11 => {
-            let at_once = step.rest % 2 == 0;
-            handed_over(place, at_once, day, image, books)
-        }
+        10 | 11 => handover(step, day, image, books),
         12 | 13 => raise_shown(place, what == 13, day, image, books),
         14 => hand_in(place, day, image, books),
         _ => opening(step, day, image, books),

@@ -1,10 +1,11 @@
 // A month at the depot: the host's calls in one long order, with the module's history run beside them. Sixty-four counters, tablets that
 // come back with old values, confirmations that come late, a log that fills, and boxes that are scrapped and replaced. Every proof that
-// the host writes goes to the desk, and what the desk shows is compared with the history. What is kept beside the image stands in one
-// buffer, the books: the module's history, a card for each place, and a tally. The expected output is calculated from the documents and not
-// by this program.
+// the host writes goes to the desk, and what the desk shows is compared with the history. Proofs are counted for each box, and what close
+// answers and what the records have at the end is compared with that count. What is kept beside the image stands in one buffer, the books: the
+// module's history, a card for each place, and a tally. The expected output is calculated from the documents and not by this program.
 mod cards;
 mod day;
+mod invoice;
 mod judge;
 mod module;
 mod owner;
@@ -35,6 +36,7 @@ fn run(image: &mut [u8], books: &mut [u8]) {
     let figures = start(image, GlobalClock(plan::FIRST_READING));
     tally::answered(books, image, figures);
     days(image, books);
+    invoice::in_records(image, books);
     report::month(image, books);
 }
 

@@ -1,4 +1,4 @@
-// Proofs that the host is asked for, up to the clock and up to a raise, each of which goes to the desk.
+// Proofs that the host is asked for, up to the clock and up to a raise. Each that it writes is counted on its counter's card, and goes to the desk.
 use crate::cards;
 use crate::cards::Slip;
 use crate::judge::Wanted;
@@ -27,7 +27,10 @@ fn prove_asked(
 ) -> Figures {
     let figures = prove(image, &nonce, cards::id(books, place), out);
     tally::answered(books, image, figures);
-    tally::add_if(books, tally::PROVED, figures.number == 0);
+    if figures.number == 0 {
+        tally::add(books, tally::PROVED);
+        cards::add_proof(books, place);
+    }
     figures
 }
 
@@ -41,10 +44,12 @@ fn last_asked(
     books: &mut [u8],
 ) -> Figures {
     let figures = last(image, cards::id(books, place), t, out);
-    let written = figures.number == 0;
     tally::answered(books, image, figures);
-    tally::add_if(books, tally::PROVED_LAST, written);
-    tally::add_if(books, tally::PROVED_EARLIER, written && earlier);
+    if figures.number == 0 {
+        tally::add(books, tally::PROVED_LAST);
+        tally::add_if(books, tally::PROVED_EARLIER, earlier);
+        cards::add_proof(books, place);
+    }
     figures
 }
 
@@ -130,4 +135,14 @@ pub(crate) fn proved_last(
     let value = current(place, image, books);
     let t = raise_of(value, earlier, books);
     proved_at(place, t, earlier, day, image, books)
+}
+
+// Both proofs are asked for with an output that has room for a proof's header and no more. The host refuses them, and what it does not write is
+// on no invoice.
+pub(crate) fn asked_without_room(place: u32, image: &mut [u8], books: &mut [u8]) {
+    let newest = GlobalClock(current(place, image, books));
+    let nonce = tally::nonce(books);
+    let mut out = [0u8; Proof::HEADER_LEN];
+    prove_asked(place, nonce, image, &mut out, books);
+    last_asked(place, newest, false, image, &mut out, books);
 }

@@ -5,7 +5,6 @@ use forms::bytes::wide;
 use libc::STDOUT_FILENO;
 use log_image::header::counter_count;
 use log_image::header::entry_count;
-use log_image::header::proofs_written;
 use text::line::put_filled;
 use text::part::front;
 
@@ -147,12 +146,55 @@ fn proofs(books: &[u8]) {
     );
 }
 
+fn invoices(books: &[u8]) {
+    counted(b"invoices at closings:#\n", books, tally::INVOICES);
+    counted(b"proofs on these:#\n", books, tally::INVOICED);
+    counted(b"the smallest invoice:#\n", books, tally::LEAST_INVOICE);
+    counted(b"the largest invoice:#\n", books, tally::GREATEST_INVOICE);
+    counted(
+        b"invoices that are not the books':#\n",
+        books,
+        tally::INVOICES_DIFFER,
+    );
+}
+
+fn records(books: &[u8]) {
+    counted(
+        b"records at the end of the month:#\n",
+        books,
+        tally::RECORDS,
+    );
+    counted(b"proofs counted in these:#\n", books, tally::RECORDED);
+    counted(b"the smallest figure:#\n", books, tally::LEAST_FIGURE);
+    counted(b"the largest figure:#\n", books, tally::GREATEST_FIGURE);
+    counted(
+        b"figures that are not the books':#\n",
+        books,
+        tally::FIGURES_DIFFER,
+    );
+}
+
+// No proof is on two accounts or on none: the invoices and the records have all that were written.
+fn paid(books: &[u8]) {
+    let invoiced = tally::count(books, tally::INVOICED);
+    let recorded = tally::count(books, tally::RECORDED);
+    print(
+        b"proofs on invoices and in records:#\n",
+        &[tally::plus(invoiced, recorded)],
+    );
+    let to_clock = tally::count(books, tally::PROVED);
+    let to_raise = tally::count(books, tally::PROVED_LAST);
+    print(
+        b"proofs written, by the calls:#\n",
+        &[tally::plus(to_clock, to_raise)],
+    );
+}
+
 pub(crate) fn month(image: &[u8], books: &[u8]) {
     calls(books);
     proofs(books);
-    print(
-        b"proofs written, by the image:#\n",
-        &[proofs_written(image)],
-    );
+    invoices(books);
+    records(books);
+    paid(books);
     print(b"sum of the image:#\n", &[image_sum(image)]);
 }

@@ -3,6 +3,7 @@
 use crate::cards;
 use crate::cards::Slip;
 use crate::cards::Tablet;
+use crate::invoice;
 use crate::module;
 use crate::owner::opened;
 use crate::plan::overdue;
@@ -15,7 +16,7 @@ use forms::terms::GlobalClock;
 use host::close::close;
 use log_image::header::entry_count;
 
-// The host's answer to a closing by a value at a reading, and whether entries fell away.
+// The host's answer to a closing by a value at a reading, which is the box's invoice, and whether entries fell away.
 fn closed(
     place: u32,
     value: u32,
@@ -31,6 +32,7 @@ fn closed(
     if figures.number == 0 {
         tally::add(books, tally::CLOSINGS);
         tally::add_if(books, tally::CLOSINGS_CUT, entry_count(image) < entries);
+        invoice::at_closing(place, figures.value, books);
         cards::put_closed(books, place, value);
     }
 }

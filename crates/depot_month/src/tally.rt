@@ -9,7 +9,7 @@ use forms::number::put_u32;
 use host::answer::Figures;
 use log_image::header::entry_count;
 
-const NUMBERS: usize = 64;
+const NUMBERS: usize = 96;
 
 const FIRST: usize = cards::END;
 
@@ -65,6 +65,26 @@ pub(crate) const CLOSINGS: usize = 55;
 
 pub(crate) const CLOSINGS_CUT: usize = 56;
 
+pub(crate) const INVOICES: usize = 57;
+
+pub(crate) const INVOICED: usize = 58;
+
+pub(crate) const LEAST_INVOICE: usize = 59;
+
+pub(crate) const GREATEST_INVOICE: usize = 60;
+
+pub(crate) const INVOICES_DIFFER: usize = 61;
+
+pub(crate) const RECORDS: usize = 62;
+
+pub(crate) const RECORDED: usize = 63;
+
+pub(crate) const LEAST_FIGURE: usize = 64;
+
+pub(crate) const GREATEST_FIGURE: usize = 65;
+
+pub(crate) const FIGURES_DIFFER: usize = 66;
+
 pub(crate) fn count(books: &[u8], what: usize) -> u32 {
     get_u32(books, FIRST + 4 * (what % NUMBERS))
 }
@@ -86,9 +106,29 @@ pub(crate) fn add_if(books: &mut [u8], what: usize, holds: bool) {
     }
 }
 
+// A sum that stops at the largest number.
+pub(crate) fn plus(a: u32, b: u32) -> u32 {
+    if u32::MAX - a < b {
+        return u32::MAX;
+    }
+    a + b
+}
+
+pub(crate) fn add_figure(books: &mut [u8], what: usize, figure: u32) {
+    let sum = plus(count(books, what), figure);
+    set(books, what, sum);
+}
+
 // Keeps the greatest of the numbers met.
 pub(crate) fn greatest(books: &mut [u8], what: usize, number: u32) {
     if count(books, what) < number {
+        set(books, what, number);
+    }
+}
+
+// Keeps the least of the numbers met, of which it is told the first: a count begins with 0, which is less than most.
+pub(crate) fn least(books: &mut [u8], what: usize, number: u32, first: bool) {
+    if first || number < count(books, what) {
         set(books, what, number);
     }
 }

@@ -44,24 +44,24 @@ maxProofLen = proofHeaderLen + confirmationLen + certificateLen + entryLen * max
 
 -- an image's form
 abbrev pub imageForm : ℕ
-imageForm = 3
+imageForm = 4
 
 -- the most counters in an image (document 01: boxes)
 abbrev pub maxCounters : ℕ
 maxCounters = 64
 
--- a counter's record in an image: its latest confirmation, current value (16)
+-- a counter's record in an image: its latest confirmation, current value, number of proofs (20)
 abbrev pub recordLen : ℕ
-recordLen = confirmationLen + 4
+recordLen = confirmationLen + 4 + 4
 
 -- where an image's records begin, behind its header (28)
 abbrev pub recordsOffset : ℕ
 recordsOffset = 2 + 2 + 4 + 4 + 4 + 4 + 4 + 4
 
--- where an image's entries begin (1,052)
+-- where an image's entries begin (1,308)
 abbrev pub imageLogOffset : ℕ
 imageLogOffset = recordsOffset + recordLen * maxCounters
 
--- an image's length (33,820)
+-- an image's length (34,076)
 abbrev pub imageLen : ℕ
 imageLen = imageLogOffset + entryLen * maxEntries

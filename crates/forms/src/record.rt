@@ -1,4 +1,4 @@
-// A counter's record in an image: document 01, "The host", and Note 2 of document 02.
+// A counter's record in an image: document 01, "The host", and Notes 2 and 6 of document 02.
 use crate::confirmation::Confirmation;
 use crate::number::get_u32;
 use crate::number::put_u32;
@@ -12,17 +12,21 @@ pub struct Record {
     pub held: Confirmation,
     // The counter's value at the image's clock.
     pub current: u32,
+    // How many proofs were written for the counter since it was taken up.
+    pub proofs: u32,
 }
 
 impl Record {
     // Where the current value stands in it.
     pub const CURRENT: usize = Confirmation::LEN;
+    // Where the number of proofs stands in it.
+    pub const PROOFS: usize = Record::CURRENT + 4;
 
-    pub const LEN: usize = Record::CURRENT + 4;
+    pub const LEN: usize = Record::PROOFS + 4;
 
     // The record of a counter that is taken up.
     //
-    // Ruled out, among others: a record without the confirmed value; one with its reading for it.
+    // Ruled out, among others: a record without the confirmed value; one with its reading for it; one that begins with a proof counted.
     pub fn new(held: Confirmation) -> Self
         ensures { λ r. ⌜ r ≡ taken held ⌝ }
         ensures { λ _. do ⌜ (← ⟦Record::LEN⟧ .entry) ≡ recordLen ⌝ }
@@ -30,6 +34,7 @@ impl Record {
         Record {
             held,
             current: held.value,
+            proofs: 0,
         }
     }
 
@@ -41,11 +46,16 @@ impl Record {
     {
         let held = Confirmation::read(s, at);
         if s.len() <= at {
-            return Record { held, current: 0 };
+            return Record {
+                held,
+                current: 0,
+                proofs: 0,
+            };
         }
         Record {
             held,
             current: get_u32(s, at + Record::CURRENT),
+            proofs: get_u32(s, at + Record::PROOFS),
         }
     }
 
@@ -63,5 +73,6 @@ impl Record {
         }
         self.held.write(s, at);
         put_u32(s, at + Record::CURRENT, self.current);
+        put_u32(s, at + Record::PROOFS, self.proofs);
     }
 }

@@ -36,7 +36,7 @@ without-index (r ∷ rs) id = go (sameId (r .held .id) id) (without-index rs id)
     go false rest = ap (λ (l : List Record). r ∷ l) rest
 
 -- one fewer, where the counter is held
-pub length-without : (rs : List Record) (id : CounterId) → holds rs id ≡ true → length (without rs id) ≡ length rs - 1
+length-without : (rs : List Record) (id : CounterId) → holds rs id ≡ true → length (without rs id) ≡ length rs - 1
 length-without rs id held =
     let i = indexOf rs id in
     let within : i < length rs = ltb-true _ _ (sym (holds-index rs id) ∙ held) in
@@ -61,7 +61,6 @@ without-fits st id fits held =
       log = fits .log;
       entries = fits .entries;
       bytes = fits .bytes;
-      written = fits .written;
     }
 
 -- ---- the record taken out

@@ -1,5 +1,5 @@
 -- What the dock's display may rely on (document 02, Note 2: "The dock's display looks values up in the image and cannot walk the log"): in a
--- sound image the four bytes at the end of each record are what `read` answers for the counter that the record names. Assumes nothing.
+-- sound image the current value that stands in each record is what `read` answers for the counter that the record names. Assumes nothing.
 use mathlib.Core.Path.{_≡_, refl, sym, ap, ap₂, _∙_}
 use Prim.Native.Nat.{ℕ, zero, suc, _+_, _*_, _<_, min}
 use native.Mathlib.Omega.{arith}

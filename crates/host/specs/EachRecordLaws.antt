@@ -93,7 +93,7 @@ oldest-snoc clock (x ∷ rs) r past = omega (arith, oldest-snoc clock rs r past)
 -- ---- one more record
 
 -- its counter is held too
-holds-snoc : (rs : List Record) (r : Record) (id : CounterId) → holds (rs ++ (r ∷ [])) id ≡ (holds rs id || sameId (r .held .id) id)
+pub holds-snoc : (rs : List Record) (r : Record) (id : CounterId) → holds (rs ++ (r ∷ [])) id ≡ (holds rs id || sameId (r .held .id) id)
 unfolding holds
 holds-snoc [] r id = or-false (sameId (r .held .id) id)
 holds-snoc (x ∷ rs) r id = ap (λ (b : Bool). sameId (x .held .id) id || b) (holds-snoc rs r id) ∙ sym (or-assoc (sameId (x .held .id) id) (holds rs id) (sameId (r .held .id) id))
@@ -178,7 +178,7 @@ Keeps id change = (r : Record) → sameId (r .held .id) id ≡ true → change r
 
 module _ (id : CounterId) (change : Record → Record) (keeps : Keeps id change) where
   -- the same counters are held
-  holds-updated : (rs : List Record) (other : CounterId) → holds (updated rs id change) other ≡ holds rs other
+  pub holds-updated : (rs : List Record) (other : CounterId) → holds (updated rs id change) other ≡ holds rs other
   unfolding holds updated
   holds-updated [] other = refl
   holds-updated (r ∷ rs) other = go (sameId (r .held .id) id) refl (holds-updated rs other)

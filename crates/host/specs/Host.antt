@@ -1,5 +1,5 @@
--- The host's calls: document 01, "The host", and document 02, Note 4, "close". Each is a row of refusals in the order of its numbers, a value
--- and the state after it; on refusal the image stays as it was. Assumes nothing.
+-- The host's calls: document 01, "The host", and document 02: Note 4, "close", and Note 6, the proofs counted for each counter. Each is a row
+-- of refusals in the order of its numbers, a value and the state after it; on refusal the image stays as it was. Assumes nothing.
 use Prim.Native.Nat.{ℕ, _+_, _-_, min}
 use mathlib.Core.Bool.{Bool, false, not, cond, _&&_, _||_}
 use mathlib.Core.List.{List, [], _∷_, _++_}
@@ -164,11 +164,11 @@ closeRefusal st c verdict = firstOf (closeRows st c verdict) 0
 
 -- the state with other records
 abbrev pub withRecords : State → List Record → State
-withRecords st rs = record { clock = st .clock; records = rs; log = st .log; written = st .written }
+withRecords st rs = record { clock = st .clock; records = rs; log = st .log }
 
 -- and with the log cut to their oldest reading: the entries up to it are no longer needed
 abbrev pub cutTo : State → List Record → State
-cutTo st rs = record { clock = st .clock; records = rs; log = drop (oldest (st .clock) rs - base st) (st .log); written = st .written }
+cutTo st rs = record { clock = st .clock; records = rs; log = drop (oldest (st .clock) rs - base st) (st .log) }
 
 -- the records with that of a counter changed
 unfoldable pub updated : List Record → CounterId → (Record → Record) → List Record
@@ -181,28 +181,33 @@ updatedState st id change = withRecords st (updated (st .records) id change)
 
 -- what a call changes in its counter's record. confirm: the owner's newer confirmation
 abbrev pub confirmedBy : Confirmation → Record → Record
-confirmedBy c r = record { held = c; current = r .current }
+confirmedBy c r = record { held = c; current = r .current; proofs = r .proofs }
 
 -- increment: the new clock as current value
 abbrev pub raisedTo : GlobalClock → Record → Record
-raisedTo reading r = record { held = r .held; current = reading .0 }
+raisedTo reading r = record { held = r .held; current = reading .0; proofs = r .proofs }
+
+-- prove and last: "the number of proofs written for that box since opening, .. with the same ceiling", which is 4,294,967,295
+abbrev pub proved : Record → Record
+proved r = record { held = r .held; current = r .current; proofs = min (r .proofs + 1) largest }
 
 abbrev pub changedBy : Change → Record → Record
 changedBy (Change.Confirmed c) = confirmedBy c
 changedBy (Change.Raised reading) = raisedTo reading
+changedBy Change.Proved = proved
 
 -- "start writes an image with a given clock, no boxes"
 abbrev pub started : GlobalClock → State
-started clock = record { clock = clock; records = []; log = []; written = 0 }
+started clock = record { clock = clock; records = []; log = [] }
 
 abbrev pub opened : State → Confirmation → State
-opened st c = record { clock = st .clock; records = st .records ++ (taken c ∷ []); log = st .log; written = st .written }
+opened st c = record { clock = st .clock; records = st .records ++ (taken c ∷ []); log = st .log }
 
 -- tick and increment: "Clock + 1 and the new entry are stored"
 abbrev pub raised : State → Carried → List ℕ → State
 raised st carried nonce =
     let next : GlobalClock = globalClock (st .clock .0 + 1) in
-    record { clock = next; records = st .records; log = st .log ++ (entryOf next carried nonce ∷ []); written = st .written }
+    record { clock = next; records = st .records; log = st .log ++ (entryOf next carried nonce ∷ []) }
 
 -- increment also changes its counter's record
 abbrev pub incremented : State → List ℕ → CounterId → ℕ → State
@@ -215,14 +220,14 @@ abbrev pub noneHeld : State → Bool
 noneHeld st = eqb (length (st .records)) 0
 
 abbrev pub advanced : State → State
-advanced st = record { clock = globalClock (st .clock .0 + 1); records = st .records; log = st .log; written = st .written }
+advanced st = record { clock = globalClock (st .clock .0 + 1); records = st .records; log = st .log }
 
 abbrev pub ticked : State → List ℕ → State
 ticked st nonce = cond (noneHeld st) (advanced st) (raised st Carried.Tick nonce)
 
--- prove and last "add 1 to proofs written", which "stops at 4,294,967,295"
-abbrev pub counted : State → State
-counted st = record { clock = st .clock; records = st .records; log = st .log; written = min (st .written + 1) largest }
+-- "Proving for one box alters no other box's figure"
+abbrev pub counted : State → CounterId → State
+counted st id = updatedState st id proved
 
 -- "confirm replaces the box's confirmation, then drops entries no longer needed"
 abbrev pub replaced : List Record → Confirmation → List Record
@@ -309,24 +314,24 @@ abbrev pub proveCall : List ℕ → List ℕ → CounterId → ℕ → Settled
 proveCall s nonce id room =
     let st : State = decode s in
     let len : ℕ = proofLen (shapeOf (proofOf st nonce id)) in
-    settled s (proveRefusal st nonce id len room) len (counted st)
+    settled s (proveRefusal st nonce id len room) len (counted st id)
 
 abbrev pub lastCall : List ℕ → CounterId → GlobalClock → ℕ → Settled
 lastCall s id t room =
     let st : State = decode s in
     let len : ℕ = proofLen (shapeOf (lastOf st id t)) in
-    settled s (lastRefusal st id t len room) len (counted st)
+    settled s (lastRefusal st id t len room) len (counted st id)
 
 abbrev pub confirmCall : List ℕ → Confirmation → ℕ → Settled
 confirmCall s c verdict =
     let st : State = decode s in
     settled s (confirmRefusal st c verdict) (length (confirmedState st c .log)) (confirmedState st c)
 
--- "the answer is the boxes left"
+-- "Close answers with the box's figure"
 abbrev pub closeCall : List ℕ → Confirmation → ℕ → Settled
 closeCall s c verdict =
     let st : State = decode s in
-    settled s (closeRefusal st c verdict) (length (closedState st (c .id) .records)) (closedState st (c .id))
+    settled s (closeRefusal st c verdict) (recordOf (st .records) (c .id) .proofs) (closedState st (c .id))
 
 -- ---- the output of prove and last
 

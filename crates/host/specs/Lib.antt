@@ -2,6 +2,7 @@ pub mod CloseLaws
 pub mod CloseStores
 pub mod ConfirmLaws
 pub mod ConfirmStores
+pub mod CountLaws
 pub mod CutLaws
 pub mod CutStores
 pub mod DisplayLaws
@@ -17,6 +18,7 @@ pub mod LogEndsLaws
 pub mod OpenLaws
 pub mod ProveLaws
 pub mod RaiseLaws
+pub mod RecordOfLaws
 pub mod RecordStores
 pub mod RefusalLaws
 pub mod SettledLaws

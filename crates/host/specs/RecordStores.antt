@@ -25,18 +25,18 @@ use Rattle.host.specs.IndexLaws.{found-record}
 
 -- a state with another record at an index
 abbrev setState : State → ℕ → Record → State
-setState st i r = record { clock = st .clock; records = set (st .records) i r; log = st .log; written = st .written }
+setState st i r = record { clock = st .clock; records = set (st .records) i r; log = st .log }
 
 -- the counter's index is where its record changes
 updated-state : (st : State) (id : CounterId) (change : Record → Record)
     → setState st (indexOf (st .records) id) (change (recordOf (st .records) id)) ≡ updatedState st id change
 updated-state st id change =
-    ap (λ (rs : List Record). record { clock = st .clock; records = rs; log = st .log; written = st .written }) (sym (updated-set (st .records) id change))
+    ap (λ (rs : List Record). record { clock = st .clock; records = rs; log = st .log }) (sym (updated-set (st .records) id change))
 
 -- a counter's record has numbers of 32 bits where every record has
 pub record-of-fits : (rs : List Record) (id : CounterId) → RecordsFit rs → RecordFits (recordOf rs id)
 unfolding recordOf
-record-of-fits [] id RecordsFit.none = record { held = record { id = lit< tt; value = lit< tt; reading = lit< tt }; current = lit< tt }
+record-of-fits [] id RecordsFit.none = record { held = record { id = lit< tt; value = lit< tt; reading = lit< tt }; current = lit< tt; proofs = lit< tt }
 record-of-fits (r ∷ rs) id (RecordsFit.one-more first fit) = go (sameId (r .held .id) id) (record-of-fits rs id fit)
   where
     go : (b : Bool) → RecordFits (recordOf rs id) → RecordFits (cond b r (recordOf rs id))

@@ -17,6 +17,8 @@ pub(crate) enum Change {
     Confirmed(Confirmation),
     // Its current value becomes a reading.
     Raised(GlobalClock),
+    // A proof more was written for it; the count stops at the largest number.
+    Proved,
 }
 
 // The record after a change. Whatever the change does not speak of stays.
@@ -30,6 +32,11 @@ fn changed(before: Record, change: Change) -> Record
         }
         Change::Raised(reading) => {
             next.current = reading.0;
+        }
+        Change::Proved => {
+            if next.proofs < u32::MAX {
+                next.proofs += 1;
+            }
         }
     }
     next

@@ -14,13 +14,13 @@ use log_image::header;
 use log_image::header::clock;
 use log_image::header::counter_count;
 use log_image::records::index_of;
+use log_image::records::proofs;
 use log_image::soundness::sound;
 ghost use mathlib.Core.Path.{_≡_};
 ghost use mathlib.Core.Bool.{true};
-ghost use lib.ListN.{length};
 ghost use Rattle.log_image.specs.Sound.{holds, sound};
 ghost use Rattle.log_image.specs.State.{decode, encode};
-ghost use Rattle.host.specs.Host.{closeCall, closeRefusal, withRecords, without};
+ghost use Rattle.host.specs.Host.{closeCall, closeRefusal, recordOf, withRecords, without};
 
 // The number of the first refusal of a closing on a sound image, 0 where there is none.
 fn close_refusal(image: &[u8], confirmation: Confirmation, verdict: u32) -> u32
@@ -46,13 +46,14 @@ fn close_refusal(image: &[u8], confirmation: Confirmation, verdict: u32) -> u32
 }
 
 // Takes out a held counter's record: the later ones move up to its place, the place that the last one leaves is cleared, and their count is
-// stored and answered.
+// stored. Answers with the number of proofs that it had.
 fn remove_record(image: &mut [u8], id: CounterId) -> u32
     requires { ⌜ (sound (now image) ≡ true) × (holds (decode (now image) .records) id ≡ true) ⌝ }
-    ensures { λ r. ⌜ r ≡ length (without (decode (now (image .entry)) .records) id) ⌝ }
+    ensures { λ r. ⌜ r ≡ recordOf (decode (now (image .entry)) .records) id .proofs ⌝ }
     ensures { λ _. ⌜ now (image .exit) ≡ encode (withRecords (decode (now (image .entry))) (without (decode (now (image .entry)) .records) id)) ⌝ }
 {
     let index = index_of(image, id);
+    let proofs = proofs(image, index);
     let left = counter_count(image) - 1;
     let behind = Record::LEN * ((left - index) as usize);
     vacate(
@@ -62,13 +63,14 @@ fn remove_record(image: &mut [u8], id: CounterId) -> u32
         behind,
     );
     put_u32(image, header::COUNTERS, left);
-    left
+    proofs
 }
 
-// Answers 0 and the count of counters left, or refuses by 14 to 17, 21 or 22 with value 0 and the image as it was.
+// Answers 0 and the number of proofs written for the counter since it was opened, or refuses by 14 to 17, 21 or 22 with value 0 and the image as
+// it was.
 //
-// Ruled out, among others: a host that leaves the bytes of the last record behind the others; one that cuts the log at the newest reading left;
-// one that closes by a confirmation older than the clock.
+// Ruled out, among others: a host that answers with the number of counters left, or of another counter's proofs; one that leaves the bytes of
+// the last record behind the others; one that cuts the log at the newest reading left; one that closes by a confirmation older than the clock.
 pub fn close(image: &mut [u8], confirmation: Confirmation, verdict: u32) -> Figures
     ensures { λ r. ⌜ r ≡ closeCall (now (image .entry)) confirmation verdict .figures ⌝ }
     ensures { λ _. ⌜ now (image .exit) ≡ closeCall (now (image .entry)) confirmation verdict .image ⌝ }

@@ -22,17 +22,10 @@ const UNTOUCHED: u8 = 0xA5;
 // Room for a printed line.
 pub const LINE_ROOM: usize = 256;
 
-// The checksums of image and output.
+// The checksums of image and output, 0 for the output of a call that has none.
 struct Sums {
     image: u32,
     out: u32,
-}
-
-fn both(image: &[u8], out: &[u8]) -> Sums {
-    Sums {
-        image: checksum(image),
-        out: checksum(out),
-    }
 }
 
 // Writes the first bytes of a line, and a newline behind them.
@@ -43,6 +36,17 @@ pub(crate) fn print_line(line: &mut [u8], len: usize) {
 
 fn has_output(word: u8) -> bool {
     word == b'p' || word == b'l'
+}
+
+fn output_sum(word: u8, out: &[u8]) -> u32 {
+    if has_output(word) { checksum(out) } else { 0 }
+}
+
+fn both(word: u8, image: &[u8], out: &[u8]) -> Sums {
+    Sums {
+        image: checksum(image),
+        out: output_sum(word, out),
+    }
 }
 
 // Puts into a line whether a buffer changed, and its checksum now.
@@ -83,10 +87,11 @@ fn print_answer(text: &[u8], shown: ReadFigures, before: Sums, now: Sums) {
 
 // The call gets the first bytes of the image's buffer.
 fn print_call(text: &[u8], lent: usize, image: &mut [u8], out: &mut [u8]) {
-    let before = both(image, out);
+    let word = byte_at(text, 0);
+    let before = both(word, image, out);
     let end = least(lent, image.len());
     let shown = call::made(Call::of(text), &mut image[0..end], out);
-    print_answer(text, shown, before, both(image, out));
+    print_answer(text, shown, before, both(word, image, out));
 }
 
 pub(crate) fn print(text: &[u8], lent: usize, image: &mut [u8]) {

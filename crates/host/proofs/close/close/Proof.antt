@@ -6,7 +6,6 @@ use Prim.Native.Nat.{ℕ}
 use native.Mathlib.Omega.{arith}
 use borrow.Author.Needs.{needs}
 use borrow.Author.Tests.{not-true, not-false}
-use lib.ListN.{length}
 use Rattle.forms.specs.Bytes.{Bytes}
 use Rattle.log_image.specs.ImageRoundTrip.{decode-fits, sound-laid-out}
 use Rattle.log_image.specs.Sound.{sound}
@@ -14,7 +13,7 @@ use Rattle.log_image.specs.State.{State, decode, encode}
 use Rattle.host.specs.CloseStores.{without-fits}
 use Rattle.host.specs.CutStores.{Uncut, uncut-image}
 use Rattle.host.specs.EachRecordLaws.{oldest-without}
-use Rattle.host.specs.Host.{closeRefusal, without, closedState}
+use Rattle.host.specs.Host.{closeRefusal, recordOf, without, closedState}
 use Rattle.host.specs.RefusalLaws.{ClosePassed, close-passed}
 use Rattle.host.specs.SettledLaws.{ends-unsound, ends-refused, ends-done}
 use Rattle.host.proofs.close.close.Statement.{statement}
@@ -32,6 +31,9 @@ refusal c = closeRefusal (state c) (c .args .confirmation) (c .args .verdict)
 abbrev next : tie.Start → State
 next c = closedState (state c) (c .args .confirmation .id)
 
+abbrev proofs : tie.Start → ℕ
+proofs c = recordOf (state c .records) (c .args .confirmation .id) .proofs
+
 is-sound : (c : tie.Else1) → sound (start (c .before) .args .image .now) ≡ true
 is-sound c = sym (c .before .sound .ensures) ∙ not-false _ (c .if1 .left)
 
@@ -44,12 +46,12 @@ start-of c = start (sound-of c .before)
 unsound : tie.Need-returns
 unsound c =
     let s = start (c .before) in
-    ends-unsound (s .args .image .now) (refusal s) (length (next s .records)) (next s) (sym (c .before .sound .ensures) ∙ not-true _ (c .if1 .taken))
+    ends-unsound (s .args .image .now) (refusal s) (proofs s) (next s) (sym (c .before .sound .ensures) ∙ not-true _ (c .if1 .taken))
 
 refused : tie.Need-returns-2
 refused c =
     let s = start-of (c .before) in
-    ends-refused (s .args .image .now) (refusal s) (length (next s .records)) (next s) (c .before .close-refusal .result)
+    ends-refused (s .args .image .now) (refusal s) (proofs s) (next s) (c .before .close-refusal .result)
     (is-sound (sound-of (c .before))) (c .before .close-refusal .ensures) (c .if2 .taken)
 
 none : (c : tie.Else2) → refusal (start-of (c .before)) ≡ 0
@@ -87,7 +89,7 @@ done c =
     let remove = cut .before .before .before .before in
     let left = left-of remove in
     let s = start-of (left .before) in
-    ends-done (s .args .image .now) (refusal s) (length (next s .records)) (next s) (remove .remove-record .result) (cut .cut .last .0)
+    ends-done (s .args .image .now) (refusal s) (proofs s) (next s) (remove .remove-record .result) (cut .cut .last .0)
     (is-sound (sound-of (left .before))) (none left) (remove .remove-record .ensures .0) (cut .cut .ensures .1 ∙ ap encode (removed remove .whole))
 
 pub close-spec : {M : Type 1} → statement M

@@ -7,12 +7,11 @@ use borrow.Author.Needs.{needs}
 use Rattle.forms.specs.Bytes.{Bytes, overwrite}
 use Rattle.forms.specs.Limits.{recordsOffset, recordLen, maxCounters}
 use Rattle.forms.specs.Number.{digits}
-use Rattle.log_image.specs.DecodeLaws.{count-counters}
+use Rattle.forms.specs.declared.record.Record.{Record}
 use Rattle.log_image.specs.ImageRoundTrip.{LaidOut, sound-laid-out, laid-out-parts}
-use Rattle.log_image.specs.State.{decode, counterCount}
-use Rattle.host.specs.CloseStores.{length-without, remove-stored}
+use Rattle.host.specs.CloseStores.{remove-stored}
 use Rattle.host.specs.CutStores.{vacated}
-use Rattle.host.specs.IndexLaws.{found-record}
+use Rattle.host.specs.IndexLaws.{Found, found-record}
 use Rattle.host.proofs.close.remove_record.Statement.{statement}
 use Rattle.host.proofs.close.remove_record.Tie as tie
 
@@ -26,18 +25,18 @@ bytes c k = omega (arith, c .before .before .slice-known .given k)
 parts : (c : tie.Start) → LaidOut (c .args .image .now)
 parts c = laid-out-parts (c .args .image .now) (sound-laid-out (c .args .image .now) (c .pre .0))
 
--- the index is that of a record
-within : (c : tie.After-index-of) → c .index-of .result < counterCount (start c .args .image .now)
-within c =
+-- the index is that of the counter's record
+found : (c : tie.After-index-of) → Found (start c .args .image .now) (start c .args .id) (c .index-of .result)
+found c =
     let s = start c in
-    found-record (s .args .image .now) (s .args .id) (c .index-of .result) (parts s .frame .counters) (s .pre .1) (c .index-of .ensures) .within
+    found-record (s .args .image .now) (s .args .id) (c .index-of .result) (parts s .frame .counters) (s .pre .1) (c .index-of .ensures)
 
 abbrev index-of : tie.After-counter-count → tie.After-index-of
-index-of c = c .before .before
+index-of c = c .before .before .before .before
 
 -- the count is one of a record at least, and of no more than an image has
 some : (c : tie.After-counter-count) → index-of c .index-of .result < c .counter-count .result
-some c = omega (arith, within (index-of c), c .counter-count .ensures)
+some c = omega (arith, found (index-of c) .within, c .counter-count .ensures)
 
 few : (c : tie.After-counter-count) → c .counter-count .result ≤ maxCounters
 few c = omega (arith, c .counter-count .ensures, parts (start (index-of c)) .frame .counters)
@@ -52,12 +51,13 @@ stored c =
     let put = c .before .before in
     let vacate = put .before .before .before .before in
     let count = vacate .before .before in
+    let proofs = count .before .before in
     let index = index-of count in
     let a = start index .args in
     let s = a .image .now in
     let i = index .index-of .result in
     let e = count .counter-count .ensures in (
-      ap (λ (m : ℕ). m - 1) (e ∙ sym (count-counters s)) ∙ sym (length-without (decode s .records) (a .id) (start index .pre .1)),
+      proofs .proofs .ensures ∙ ap (λ (r : Record). r .proofs) (sym (found index .own)),
       put .put-u32 .ensures
           ∙ ap (λ (l : List ℕ). overwrite l 8 (digits 4 (count .counter-count .result - 1))) (vacate .vacate .ensures)
           ∙ ap (λ (m : ℕ). overwrite (vacated s (recordsOffset + recordLen * i) recordLen (recordLen * (m - 1 - i))) 8 (digits 4 (m - 1))) e
@@ -68,6 +68,7 @@ pub remove-record-spec : {M : Type 1} → statement M
 remove-record-spec =
     tie.close
     (tie.spec
+    (λ c κs. search needs)
     (λ c κs. search needs)
     (λ c κs. search needs)
     (λ c. omega (arith, some c))

@@ -35,7 +35,7 @@ stored c =
     let e = sym (ap (call start) (eq-eqb (length (start .args .image .now)) imageLen (cleared .before .before .if1 .left))) in (
       ap (λ (r : Settled). r .figures) e,
       c .before .before .put-header .ensures
-          ∙ ap (λ (s : List ℕ). overwrite s 0 (headerOf (start .args .clock .0) 0 0 0)) (cleared .clear .ensures)
+          ∙ ap (λ (s : List ℕ). overwrite s 0 (headerOf (start .args .clock .0) 0 0)) (cleared .clear .ensures)
           ∙ start-stored (length (start .args .image .now)) (start .args .clock) (cleared .before .before .if1 .left)
           ∙ ap (λ (r : Settled). r .image) e,
     )

@@ -1,0 +1,92 @@
+-- A place in a worked list of calls: the image there, and the state that it says. Each call on it is worked out on the state alone. Assumes
+-- nothing.
+use Prim.Native.Nat.{ℕ, _+_, _<_}
+use mathlib.Core.Path.{_≡_, sym, ap, subst, _∙_}
+use mathlib.Core.List.{List}
+use lib.Dec.{lit<}
+use lib.ListN.{length}
+use Rattle.forms.specs.PartsLaws.{ConfirmationFits}
+use Rattle.forms.specs.Terms.{counterId, globalClock}
+use Rattle.forms.specs.declared.confirmation.Confirmation.{Confirmation}
+use Rattle.forms.specs.declared.terms.CounterId.{CounterId}
+use Rattle.validity.specs.Proof.{shapeOf, proofLen}
+use Rattle.log_image.specs.FitLaws.{start-fits}
+use Rattle.log_image.specs.ImageRoundTrip.{decode-encode}
+use Rattle.log_image.specs.State.{State, decode}
+use Rattle.host.specs.Host.{Settled, recordOf, openRefusal, proveRefusal, closeRefusal, started, opened, counted, closedState, proofOf, settled, startCall}
+use Rattle.host.specs.RaiseLaws.{started-sound}
+use Rattle.host.specs.SettledLaws.{settled-done}
+use Rattle.assurance.specs.HostList.{HostCall, settledBy}
+use Rattle.assurance.specs.HostListWitness.{nonceOf, blank, start-image}
+use Rattle.assurance.specs.HostSteps.{Kept, Steady, steady-kept, open-steady, counted-steady, close-steady}
+
+-- an image that every call may be handed, and the state that it says
+pub record Stands (s : List ℕ) (st : State) : Type 0 where
+  pub kept : Kept s
+  pub says : decode s ≡ st
+
+-- a call there that is not refused: what it answers, and where it leads
+pub record Done (r : Settled) (value : ℕ) (next : State) : Type 0 where
+  pub answers : r .figures ≡ record { number = 0; value = value }
+  pub leads : Stands (r .image) next
+
+pub done : {s : List ℕ} {st : State} (number value : State → ℕ) (next : State → State) {to : State} → Stands s st → number st ≡ 0 → Steady (next (decode s)) → next st ≡ to
+    → Done (settled s (number (decode s)) (value (decode s)) (next (decode s))) (value st) to
+done {s} {st} number value next {to} here none steady becomes =
+    let e = settled-done s (number (decode s)) (value (decode s)) (next (decode s)) (here .kept .is-sound) (ap number (here .says) ∙ none) in
+    record {
+      answers = ap (λ (r : Settled). r .figures) e ∙ ap (λ (x : State). record { number = 0; value = value x }) (here .says);
+      leads = subst (λ (image : List ℕ). Stands image to) (sym (ap (λ (r : Settled). r .image) e))
+          (record { kept = steady-kept (next (decode s)) steady; says = decode-encode (next (decode s)) (steady .1) ∙ ap next (here .says) ∙ becomes });
+    }
+
+-- ---- the first place
+
+-- the image of a start at 100
+unfoldable pub begun-image : List ℕ
+begun-image = startCall blank (globalClock 100) .image
+
+pub begun-here : Stands begun-image (started (globalClock 100))
+unfolding begun-image
+begun-here =
+    let begun : State = started (globalClock 100) in
+    let fits = start-fits (globalClock 100) (lit< tt) in
+    subst (λ (image : List ℕ). Stands image begun) (sym start-image)
+    (record { kept = steady-kept begun (started-sound (globalClock 100), fits); says = decode-encode begun fits })
+
+-- ---- the calls of more than one list
+
+-- a confirmation of a counter with a value that is its reading
+abbrev pub signed : CounterId → ℕ → Confirmation
+signed id t = record { id = id; value = t; reading = globalClock t }
+
+pub confirmed-fits : (id t : ℕ) → id < 4294967296 → t < 4294967296 → ConfirmationFits (signed (counterId id) t)
+confirmed-fits id t small low = record { id = small; value = low; reading = low }
+
+abbrev pub opening : CounterId → ℕ → HostCall
+opening id t = HostCall.«open» (signed id t) 1
+
+pub opens : {s : List ℕ} {st to : State} (id : CounterId) (t : ℕ) → ConfirmationFits (signed id t) → Stands s st → openRefusal st (signed id t) 1 ≡ 0
+    → opened st (signed id t) ≡ to → Done (settledBy s (opening id t)) (length (st .records) + 1) to
+opens {s} {st} id t fits here none becomes =
+    done (λ x. openRefusal x (signed id t) 1) (λ x. length (x .records) + 1) (λ x. opened x (signed id t)) here none
+    (open-steady s (here .kept) (signed id t) 1 fits (ap (λ (x : State). openRefusal x (signed id t) 1) (here .says) ∙ none)) becomes
+
+abbrev pub proveLen : ℕ → CounterId → State → ℕ
+proveLen b id st = proofLen (shapeOf (proofOf st (nonceOf b) id))
+
+pub proves : {s : List ℕ} {st to : State} (b : ℕ) (id : CounterId) (output : List ℕ) → Stands s st
+    → proveRefusal st (nonceOf b) id (proveLen b id st) (length output) ≡ 0 → counted st id ≡ to
+    → Done (settledBy s (HostCall.prove (nonceOf b) id output)) (proveLen b id st) to
+proves {s} b id output here none becomes =
+    done (λ x. proveRefusal x (nonceOf b) id (proveLen b id x) (length output)) (proveLen b id) (λ x. counted x id) here none
+    (counted-steady s (here .kept) id) becomes
+
+abbrev pub closing : CounterId → ℕ → HostCall
+closing id t = HostCall.close (signed id t) 1
+
+pub closes : {s : List ℕ} {st to : State} (id : CounterId) (t : ℕ) → Stands s st → closeRefusal st (signed id t) 1 ≡ 0 → closedState st id ≡ to
+    → Done (settledBy s (closing id t)) (recordOf (st .records) id .proofs) to
+closes {s} {st} id t here none becomes =
+    done (λ x. closeRefusal x (signed id t) 1) (λ x. recordOf (x .records) id .proofs) (λ x. closedState x id) here none
+    (close-steady s (here .kept) (signed id t) 1 (ap (λ (x : State). closeRefusal x (signed id t) 1) (here .says) ∙ none)) becomes
