@@ -1,21 +1,25 @@
 /*
  * The proved desk beside two plain ones: first that all give the same five figures, then how long each takes.
  *
- * Exits with 1 where any figure differs, or where a check that the desk has, an accepted proof with openings, or one of the answers that
- * turn on an entry that its owner did not sign was never met, so that the comparison would be hollow.
+ * Exits with 1 where any figure differs, or where a check that the desk has, an accepted proof with openings, with a shared entry or with a tick,
+ * or one of the answers that turn on a request that its owner did not sign was never met, so that the comparison would be hollow.
  */
 #define _POSIX_C_SOURCE 200809L
+#include "common.h"
 #include "desk_plain.h"
+#include "sha1_plain.h"
 
 #include <stdbool.h>
 #include <stdio.h>
 #include <stdlib.h>
 #include <string.h>
-#include <time.h>
 
 enum { CASES = 200000, ROUNDS = 300, CALLS = 40, IMPLEMENTATIONS = 3 };
-/* The numbers of the desk's answers are those below 14, without 12. */
-enum { NUMBERS = 14, NOT_GIVEN = 12 };
+/* The numbers of the desk's answers. */
+static const uint32_t numbers[] = {0, 1, 2, 3, 4, 5, 6, 7, 8, 9, 10, 11, 13, 30, 31};
+enum { NUMBERS = sizeof numbers / sizeof numbers[0], ABOVE_NUMBERS = 32 };
+/* Where things stand in a proof. */
+enum { LOG_READ = 60, LOG_INCREMENT = 36, COUNT = 4, NONCE = 8, HEAD_LEN = 28, ID = 20, BEFORE = 24 };
 /* Room to lend a proof or a verdict list longer than it should be. */
 enum { SLACK = 64 };
 
@@ -28,7 +32,7 @@ static const char *const names[IMPLEMENTATIONS] = {"vmc_desk_verify", "C, loop a
 struct question {
     uint8_t proof[VMC_PROOF_MAX_LEN + SLACK];
     size_t proof_len;
-    uint8_t verdicts[2 + 2 * VMC_PROOF_MAX_ENTRIES + SLACK];
+    uint8_t verdicts[2 + 2 * VMC_MAX_UNITS + SLACK];
     size_t verdicts_len;
     uint32_t id;
     uint8_t nonce[VMC_NONCE_LEN + SLACK];
@@ -38,17 +42,6 @@ struct question {
 static vmc_desk_figures ask(verify_function *verify, const struct question *q)
 {
     return verify(q->proof, q->proof_len, q->verdicts, q->verdicts_len, q->id, q->nonce, q->nonce_len);
-}
-
-/* xorshift64*, with a fixed seed: every run has the same cases. */
-static uint64_t seed = 0x9e3779b97f4a7c15u;
-
-static uint32_t below(uint32_t limit)
-{
-    seed ^= seed >> 12;
-    seed ^= seed << 25;
-    seed ^= seed >> 27;
-    return (uint32_t)((seed * 0x2545f4914f6cdd1du >> 32) * limit >> 32);
 }
 
 static uint8_t *put(uint8_t *at, uint32_t x, int bytes)
@@ -64,15 +57,55 @@ static uint8_t *put_nonce(uint8_t *at, uint8_t b)
     return at + VMC_NONCE_LEN;
 }
 
-/* Where entry i, from 1, begins in a proof of a kind, and where its owner's verdict is. */
-static uint32_t entry_at(uint32_t kind, uint32_t i)
+static uint32_t get(const uint8_t *at)
 {
-    return (kind == 1 ? 60 : 36) + 32 * (i - 1);
+    return (uint32_t)at[0] << 24 | (uint32_t)at[1] << 16 | (uint32_t)at[2] << 8 | at[3];
 }
 
-static uint32_t owner_at(uint32_t kind, uint32_t i)
+/* Where the log begins in a proof of a kind, and how many verdicts stand before those of its entries. */
+static size_t log_at(uint32_t kind)
 {
-    return (kind == 1 ? 2 : 1) + 2 * (i - 1) + 1;
+    return kind == 1 ? LOG_READ : LOG_INCREMENT;
+}
+
+static size_t verdicts_before(uint32_t kind)
+{
+    return kind == 1 ? 2 : 1;
+}
+
+/* Gives an entry the digest of its requests as its nonce. */
+static void seal(uint8_t *entry)
+{
+    vmc_digest digest = plain_sha1(entry + HEAD_LEN, VMC_REQUEST_LEN * get(entry + COUNT));
+    memcpy(entry + NONCE, digest.bytes, VMC_NONCE_LEN);
+}
+
+/* The entry at a place of a proof, with the verdicts on it: both begin at the log's first. */
+struct place {
+    size_t at;
+    size_t verdict;
+    uint32_t count;
+};
+
+/* Whether an entry lies whole at a place, and if so its count. */
+static bool look(const struct question *q, struct place *p)
+{
+    if (p->at + HEAD_LEN > q->proof_len)
+        return false;
+    p->count = get(q->proof + p->at + COUNT);
+    return p->count <= VMC_MAX_REQUESTS && p->at + HEAD_LEN + VMC_REQUEST_LEN * p->count <= q->proof_len;
+}
+
+static void move_on(struct place *p)
+{
+    p->at += HEAD_LEN + VMC_REQUEST_LEN * p->count;
+    p->verdict += 1 + p->count;
+}
+
+static struct place first_place(const struct question *q)
+{
+    uint32_t kind = q->proof[3];
+    return (struct place){.at = log_at(kind), .verdict = verdicts_before(kind)};
 }
 
 /* Whether entry i is picked where one in `every` is, in turn or at random; with 0 none is. */
@@ -81,48 +114,87 @@ static bool picked(uint32_t i, uint32_t every, bool in_turn)
     return every > 0 && (in_turn ? i % every : below(every)) == 0;
 }
 
-/* A question that the desk accepts, unless g + n is too large for a reading: a proof of n entries after reading g, of which one in
- * `every` is the wanted counter's and one in `unsigned_every` not signed by its owner, at random or in turn. In kind 2 the last one always
- * is the counter's and signed. */
-static void build(struct question *q, uint32_t kind, uint32_t id, uint32_t value, uint32_t g, uint32_t n, uint32_t every,
-                  uint32_t unsigned_every, bool in_turn)
-{
-    uint8_t *at = q->proof;
-    uint32_t running = value;
+/* How the entries of a proof are made: one in `every` has a request of the wanted counter, one in `unsigned_every` has that request unsigned; each
+ * has so many requests, or any number where that is 0. In turn, or at random. */
+struct manner {
+    uint32_t every;
+    uint32_t unsigned_every;
+    uint32_t requests;
+    bool in_turn;
+};
 
-    q->verdicts_len = (kind == 1 ? 2 : 1) + 2 * n;
-    memset(q->verdicts, 1, q->verdicts_len);
-    at = put(at, 1, 2);
+/* How many requests an entry gets, with room for so many units, one of which it needs if it has the wanted counter. */
+static uint32_t some_count(const struct manner *m, bool wanted, uint32_t room)
+{
+    uint32_t count = m->requests != 0 ? m->requests : below(3) == 0 ? below(VMC_MAX_REQUESTS + 1) : below(3);
+    if (wanted && count == 0)
+        count = 1;
+    return count < room ? count : room;
+}
+
+/* Writes an entry's requests: the wanted counter's among them at a random place, if it is wanted; the others of other counters, each once, or one of
+ * none. Gives the place of the wanted one. */
+static uint32_t put_requests(uint8_t *at, uint32_t count, bool wanted, uint32_t id, uint32_t before, uint8_t nonce)
+{
+    uint32_t own = wanted ? below(count) : count;
+    uint32_t none = below(8) == 0 ? below(VMC_MAX_REQUESTS) : count;
+
+    for (uint32_t j = 0; j < count; j++) {
+        at = put_nonce(at, j == own ? nonce : (uint8_t)below(200));
+        at = put(at, j == own ? id : j == none ? 0 : id + 1 + j, 4);
+        at = put(at, j == own ? before : below(UINT32_MAX), 4);
+    }
+    return own;
+}
+
+/* A question that the desk accepts, unless g + n is too large for a reading: a proof of at most n entries after reading g. In kind 2 the last one
+ * always has the counter's request, signed. */
+static void build(struct question *q, uint32_t kind, uint32_t id, uint32_t value, uint32_t g, uint32_t n, struct manner m)
+{
+    uint8_t *at = q->proof + log_at(kind);
+    uint32_t running = value, units = 0, i = 0;
+    uint8_t *verdict = q->verdicts + verdicts_before(kind);
+
+    memset(q->verdicts, 1, sizeof q->verdicts);
+    while (i < n) {
+        i++;
+        /* Every entry behind this one needs a unit. */
+        uint32_t room = VMC_MAX_UNITS - units - (n - i);
+        bool last = kind == 2 && i == n;
+        bool wanted = picked(i, m.every, m.in_turn) || last;
+        bool by_owner = !picked(i, m.unsigned_every, m.in_turn) || last;
+        uint32_t count = some_count(&m, wanted, room);
+        /* The value before where it is not judged: any, or at random the one that would be right. */
+        uint32_t before = wanted && by_owner ? running : m.in_turn || below(2) == 0 ? below(UINT32_MAX) : running;
+        put(at, g + i, 4);
+        put(at + COUNT, count, 4);
+        uint32_t own = put_requests(at + HEAD_LEN, count, wanted, id, before, last ? 200 : (uint8_t)below(200));
+        if (wanted)
+            verdict[1 + own] = by_owner;
+        for (uint32_t j = 0; j < count && !m.in_turn; j++)
+            if (j != own)
+                verdict[1 + j] = (uint8_t)below(2);
+        seal(at);
+        at += HEAD_LEN + VMC_REQUEST_LEN * count;
+        verdict += 1 + count;
+        units += count == 0 ? 1 : count;
+        if (wanted && by_owner)
+            running = g + i;
+    }
+    q->proof_len = (size_t)(at - q->proof);
+    q->verdicts_len = (size_t)(verdict - q->verdicts);
+    at = put(q->proof, 2, 2);
     at = put(at, kind, 2);
-    at = put(at, entry_at(kind, n + 1), 4);
+    at = put(at, (uint32_t)q->proof_len, 4);
     at = put(at, 24, 4);
     at = put(at, kind == 1 ? 36 : 0, 4);
-    at = put(at, entry_at(kind, 1), 4);
+    at = put(at, (uint32_t)log_at(kind), 4);
     at = put(at, n, 4);
     at = put(at, id, 4);
     at = put(at, value, 4);
     at = put(at, g, 4);
-    if (kind == 1) {
-        at = put(at, g + n, 4);
-        at = put_nonce(at, 200);
-    }
-    for (uint32_t i = 1; i <= n; i++) {
-        bool last = kind == 2 && i == n;
-        bool wanted = picked(i, every, in_turn) || last;
-        bool by_owner = !picked(i, unsigned_every, in_turn) || last;
-        bool raises = wanted && by_owner;
-        uint32_t other = below(4);
-        /* The value before where it is not judged: any, or at random the one that would be right. */
-        uint32_t unjudged = in_turn || below(2) == 0 ? below(UINT32_MAX) : running;
-        at = put(at, g + i, 4);
-        at = put_nonce(at, last ? 200 : (uint8_t)below(200));
-        at = put(at, wanted ? id : other == 0 ? 0 : id + other, 4);
-        at = put(at, raises ? running : !wanted && other == 0 ? 0 : unjudged, 4);
-        q->verdicts[owner_at(kind, i)] = by_owner;
-        if (raises)
-            running = g + i;
-    }
-    q->proof_len = (size_t)(at - q->proof);
+    if (kind == 1)
+        put_nonce(put(at, g + n, 4), 200);
     q->id = id;
     q->nonce_len = VMC_NONCE_LEN;
     put_nonce(q->nonce, 200);
@@ -175,6 +247,38 @@ static void damage(struct question *q)
     }
 }
 
+/* A change in one of the entries that lie whole in the proof, after which, mostly, the nonces are the digests again. */
+static void damage_entries(struct question *q)
+{
+    struct place p = first_place(q);
+    uint32_t what = below(4), skipped = below(8);
+
+    while (skipped-- > 0 && look(q, &p))
+        move_on(&p);
+    if (!look(q, &p))
+        return;
+    uint8_t *entry = q->proof + p.at, *request = entry + HEAD_LEN;
+    switch (what) {
+    case 0: /* another reading, near the right one */
+        entry[3] ^= (uint8_t)(1 + below(3));
+        break;
+    case 1: /* another count, whatever becomes of the rest */
+        put(entry + COUNT, below(10), 4);
+        break;
+    case 2: /* one of the requests names a counter that another one names */
+        if (p.count > 1)
+            memcpy(request + VMC_REQUEST_LEN * below(p.count) + ID, request + VMC_REQUEST_LEN * below(p.count) + ID, 4);
+        break;
+    default: /* a request's value before or counter */
+        if (p.count > 0)
+            request[VMC_REQUEST_LEN * below(p.count) + ID + 3 + 4 * below(2)] ^= (uint8_t)(1 + below(3));
+    }
+    if (below(4) == 0)
+        return;
+    for (p = first_place(q); look(q, &p); move_on(&p))
+        seal(q->proof + p.at);
+}
+
 static bool same(vmc_desk_figures a, vmc_desk_figures b)
 {
     return a.number == b.number && a.value == b.value && a.closing == b.closing && a.place == b.place && a.openings == b.openings;
@@ -185,26 +289,46 @@ static void print_figures(const char *name, vmc_desk_figures f)
     printf("%s %u %u %u %u %u", name, (unsigned)f.number, (unsigned)f.value, (unsigned)f.closing, (unsigned)f.place, (unsigned)f.openings);
 }
 
-/* Whether entry i is the wanted counter's without its owner's signature, in a proof that passes checks 1 to 6. */
-static bool is_unsigned(const struct question *q, uint32_t i)
+/* Whether an entry, in a proof that passes checks 1 to 6, has the wanted counter's request without its owner's signature; where its nonce has to be the
+ * wanted one too, that counts. */
+static bool is_unsigned(const struct question *q, struct place p, bool wanted_nonce)
 {
-    uint32_t kind = q->proof[3];
-    uint8_t id[4];
-
-    put(id, q->id, 4);
-    return memcmp(q->proof + entry_at(kind, i) + 24, id, sizeof id) == 0 && !q->verdicts[owner_at(kind, i)];
+    for (uint32_t j = 0; j < p.count; j++) {
+        const uint8_t *request = q->proof + p.at + HEAD_LEN + VMC_REQUEST_LEN * j;
+        if (get(request + ID) == q->id)
+            return !q->verdicts[p.verdict + 1 + j] && (!wanted_nonce || memcmp(request, q->nonce, VMC_NONCE_LEN) == 0);
+    }
+    return false;
 }
 
 static bool unsigned_before(const struct question *q, uint32_t place)
 {
-    for (uint32_t i = 1; i < place; i++)
-        if (is_unsigned(q, i))
+    struct place p = first_place(q);
+    for (uint32_t i = 1; i < place && look(q, &p); i++, move_on(&p))
+        if (is_unsigned(q, p, false))
             return true;
     return false;
 }
 
-/* Cases with an unsigned entry of the wanted counter: accepted, refused by 13 behind it, and refused by 10 for nothing else than that it
- * is the last of kind 2. */
+static bool last_unsigned(const struct question *q, uint32_t n)
+{
+    struct place p = first_place(q);
+    for (uint32_t i = 1; i < n && look(q, &p); i++)
+        move_on(&p);
+    return look(q, &p) && is_unsigned(q, p, true);
+}
+
+/* Whether a proof has an entry with a count from one to another. */
+static bool has_count(const struct question *q, uint32_t least, uint32_t most)
+{
+    for (struct place p = first_place(q); look(q, &p); move_on(&p))
+        if (least <= p.count && p.count <= most)
+            return true;
+    return false;
+}
+
+/* Cases with an unsigned request of the wanted counter: accepted, refused by 13 behind it, and refused by 10 for nothing else than that it
+ * is in the last entry of kind 2. */
 struct unsigned_met {
     unsigned long accepted;
     unsigned long behind;
@@ -219,17 +343,16 @@ static void count_unsigned(struct unsigned_met *met, const struct question *q, v
         met->accepted++;
     if (figures.number == 13 && unsigned_before(q, figures.place))
         met->behind++;
-    if (figures.number == 10 && q->proof[3] == 2 && is_unsigned(q, n) &&
-        memcmp(q->proof + entry_at(2, n) + 4, q->nonce, VMC_NONCE_LEN) == 0)
+    if (figures.number == 10 && q->proof[3] == 2 && last_unsigned(q, n))
         met->last++;
 }
 
-/* Whether all implementations agree on all cases, every number was met, and so were openings and unsigned entries. */
+/* Whether all implementations agree on all cases, every number was met, and so were openings, shared entries, ticks and unsigned requests. */
 static bool compare(struct question *q)
 {
-    static const uint32_t most_entries[] = {3, 12, 12, VMC_PROOF_MAX_ENTRIES};
-    unsigned long met[NUMBERS] = {0};
-    unsigned long differing = 0, with_openings = 0;
+    static const uint32_t most_entries[] = {3, 12, 12, VMC_MAX_UNITS};
+    unsigned long met[ABOVE_NUMBERS] = {0};
+    unsigned long differing = 0, with_openings = 0, with_shared = 0, with_ticks = 0;
     struct unsigned_met with_unsigned = {0};
 
     /* Bytes that are lent beyond a proof's end are zero or left from an earlier case. */
@@ -241,18 +364,23 @@ static bool compare(struct question *q)
         uint32_t g = below(8) == 0 ? UINT32_MAX - below(2 * n + 1) : below(UINT32_MAX);
         uint32_t value = below(8) == 0 ? g : below(g);
         uint32_t id = 1 + below(1000);
-        uint32_t every = 1 + below(3);
-        uint32_t unsigned_every = below(5);
-        build(q, kind, id, value, g, n, every, unsigned_every, false);
-        for (uint32_t changes = below(4); changes > 0; changes--)
+        struct manner manner = {.every = 1 + below(3), .unsigned_every = below(5), .requests = below(2)};
+        build(q, kind, id, value, g, n, manner);
+        for (uint32_t changes = below(3); changes > 0; changes--)
+            damage_entries(q);
+        for (uint32_t changes = below(3); changes > 0; changes--)
             damage(q);
 
         vmc_desk_figures figures[IMPLEMENTATIONS];
         for (int k = 0; k < IMPLEMENTATIONS; k++)
             figures[k] = ask(implementations[k], q);
-        met[figures[0].number < NUMBERS ? figures[0].number : 0]++;
+        met[figures[0].number < ABOVE_NUMBERS ? figures[0].number : 0]++;
         if (figures[0].openings > 0)
             with_openings++;
+        if (figures[1].number == 0 && has_count(q, 2, VMC_MAX_REQUESTS))
+            with_shared++;
+        if (figures[1].number == 0 && has_count(q, 0, 0))
+            with_ticks++;
         /* By a plain desk's answer: whatever the proved one says, the bytes that are looked at are there. */
         count_unsigned(&with_unsigned, q, figures[1]);
         for (int k = 1; k < IMPLEMENTATIONS; k++) {
@@ -268,32 +396,17 @@ static bool compare(struct question *q)
 
     printf("%d cases compared, %lu differences. Cases by number:", CASES, differing);
     bool all_met = true;
-    for (int number = 0; number < NUMBERS; number++) {
-        if (number == NOT_GIVEN)
-            continue;
-        printf(" %d:%lu", number, met[number]);
-        all_met = all_met && met[number] > 0;
+    for (int i = 0; i < NUMBERS; i++) {
+        printf(" %u:%lu", (unsigned)numbers[i], met[numbers[i]]);
+        all_met = all_met && met[numbers[i]] > 0;
     }
-    printf("; with openings: %lu\n", with_openings);
-    printf("With an unsigned entry of the wanted counter: accepted %lu, 13 behind it %lu, 10 for it as the last %lu\n", with_unsigned.accepted,
+    printf("; accepted with openings: %lu, with a shared entry %lu, with a tick %lu\n", with_openings, with_shared, with_ticks);
+    printf("With an unsigned request of the wanted counter: accepted %lu, 13 behind it %lu, 10 for it in the last entry %lu\n", with_unsigned.accepted,
            with_unsigned.behind, with_unsigned.last);
-    all_met = all_met && with_openings > 0 && with_unsigned.accepted > 0 && with_unsigned.behind > 0 && with_unsigned.last > 0;
+    all_met = all_met && with_openings > 0 && with_shared > 0 && with_ticks > 0 && with_unsigned.accepted > 0 && with_unsigned.behind > 0 && with_unsigned.last > 0;
     if (!all_met)
-        printf("error: a number was never met, or openings or an unsigned entry never were\n");
+        printf("error: a number was never met, or openings, a shared entry, a tick or an unsigned request never were\n");
     return differing == 0 && all_met;
-}
-
-static double now_ns(void)
-{
-    struct timespec t;
-    clock_gettime(CLOCK_MONOTONIC, &t);
-    return (double)t.tv_sec * 1e9 + (double)t.tv_nsec;
-}
-
-static int by_size(const void *a, const void *b)
-{
-    double x = *(const double *)a, y = *(const double *)b;
-    return (x > y) - (x < y);
 }
 
 /* Times all implementations on one question, in turn, round by round, so that a slow spell of the machine falls on all alike. */
@@ -326,18 +439,31 @@ static void measure(const char *title, const struct question *q)
     printf("  ratio: %.2f of C loop after loop, %.2f of the faster C\n", median[0] / median[1], median[0] / best_plain);
 }
 
-/* Proofs of few entries, where the comparison of the nonce is a large part of the work. */
+/* Proofs of few entries. */
 static void measure_short(struct question *q)
 {
     for (uint32_t kind = 1; kind <= 2; kind++) {
         for (uint32_t n = kind - 1; n <= 2; n++) {
             char title[64];
             snprintf(title, sizeof title, "kind %u, entries %u", (unsigned)kind, (unsigned)n);
-            build(q, kind, 7, 100, 100, n, 1, 0, true);
+            build(q, kind, 7, 100, 100, n, (struct manner){.every = 1, .requests = 1, .in_turn = true});
             measure(title, q);
         }
     }
 }
+
+/* The long proofs that are timed: each has 1,024 requests and ticks. */
+static const struct {
+    const char *title;
+    uint32_t entries;
+    struct manner manner;
+} timed[] = {
+    {"1,024 entries of one request, all of the wanted counter", 1024, {.every = 1, .requests = 1, .in_turn = true}},
+    {"1,024 entries of one request, every 64th of the wanted counter", 1024, {.every = 64, .requests = 1, .in_turn = true}},
+    {"1,024 entries of one request, all of the wanted counter, every third unsigned", 1024,
+     {.every = 1, .unsigned_every = 3, .requests = 1, .in_turn = true}},
+    {"128 entries of eight requests, one of them the wanted counter's", 128, {.every = 1, .requests = 8, .in_turn = true}},
+};
 
 int main(void)
 {
@@ -346,14 +472,10 @@ int main(void)
     if (!compare(&q))
         return 1;
     printf("Times with warm buffers: the same proof is verified again and again.\n");
-    build(&q, 1, 7, 100, 100, VMC_PROOF_MAX_ENTRIES, 1, 0, true);
-    measure("1,024 entries, all of the wanted counter", &q);
-    build(&q, 1, 7, 100, 100, VMC_PROOF_MAX_ENTRIES, 2, 0, true);
-    measure("1,024 entries, every second of another counter", &q);
-    build(&q, 1, 7, 100, 100, VMC_PROOF_MAX_ENTRIES, 64, 0, true);
-    measure("1,024 entries, every 64th of the wanted counter", &q);
-    build(&q, 1, 7, 100, 100, VMC_PROOF_MAX_ENTRIES, 1, 3, true);
-    measure("1,024 entries, all of the wanted counter, every third unsigned", &q);
+    for (size_t i = 0; i < sizeof timed / sizeof timed[0]; i++) {
+        build(&q, 1, 7, 100, 100, timed[i].entries, timed[i].manner);
+        measure(timed[i].title, &q);
+    }
     measure_short(&q);
     return 0;
 }

@@ -3,20 +3,24 @@
  * each takes.
  *
  * Exits with 1 where anything differs, or where a call or a number that the host has, a read with openings, a number of close, one of the
- * things that a close leads to or one of the cases of a count of proofs was never met, so that the comparison would be hollow.
+ * things that a close leads to, one of the cases of a count of proofs, or a number or a size of a batch was never met, so that the comparison
+ * would be hollow.
  */
 #define _POSIX_C_SOURCE 200809L
+#include "common.h"
 #include "host_plain.h"
+#include "sha1_plain.h"
 
 #include <stdbool.h>
 #include <stdio.h>
 #include <stdlib.h>
 #include <string.h>
-#include <time.h>
 
 enum { LISTS = 1500, ROUNDS = 300, CALLS = 20, IMPLEMENTATIONS = 3 };
 /* The host's numbers, but for one that only lines of text get. */
-enum { FIRST_NUMBER = 14, LINE_NUMBER = 27, NUMBERS = 29 };
+enum { FIRST_NUMBER = 14, LINE_NUMBER = 27, NUMBERS = 30 };
+/* The most requests that a batch is handed here, one more than it may have. */
+enum { MOST = VMC_MAX_REQUESTS + 1 };
 /* Room to lend an image, an output or a nonce longer than it should be. */
 enum { SLACK = 64 };
 /* From how many counters on an image has many. */
@@ -34,10 +38,23 @@ struct call {
     size_t nonce_len;
     uint8_t nonce[VMC_NONCE_LEN + SLACK];
     uint32_t id;
-    /* value: the confirmation's, or the request's value before. reading: the confirmation's, start's clock or last's t. */
+    /* value and reading: the confirmation's; reading also start's clock and last's t. */
     uint32_t value;
     uint32_t reading;
     uint32_t verdict;
+    /* A batch: requests joined, and a verdict for each. */
+    size_t requests_len;
+    size_t verdicts_len;
+    uint8_t requests[REQUEST_LEN * MOST];
+    uint8_t verdicts[MOST + 1];
+};
+
+/* What any call answers: figures that it has not are 0. */
+struct figures {
+    uint32_t number;
+    uint32_t value;
+    uint32_t openings;
+    uint32_t numbers[VMC_MAX_REQUESTS];
 };
 
 struct buffers {
@@ -45,75 +62,74 @@ struct buffers {
     uint8_t out[VMC_PROOF_MAX_LEN + SLACK];
 };
 
-/* A call's figures as those of a read, the openings 0: only read gives any. */
-static vmc_host_read_figures no_openings(vmc_host_figures figures)
+static struct figures plain_figures(vmc_host_figures f)
 {
-    return (vmc_host_read_figures){.number = figures.number, .value = figures.value};
+    return (struct figures){.number = f.number, .value = f.value};
 }
 
-static vmc_host_read_figures ask_proved(struct buffers *b, const struct call *c)
+static struct figures read_figures(vmc_host_read_figures f)
 {
-    switch (c->kind) {
-    case START:
-        return no_openings(vmc_host_start(b->image, c->image_len, c->reading));
-    case OPEN:
-        return no_openings(vmc_host_open(b->image, c->image_len, c->id, c->value, c->reading, c->verdict));
-    case TICK:
-        return no_openings(vmc_host_tick(b->image, c->image_len, c->nonce, c->nonce_len));
-    case INCREMENT:
-        return no_openings(vmc_host_increment(b->image, c->image_len, c->nonce, c->nonce_len, c->id, c->value, c->verdict));
-    case READ:
-        return vmc_host_read(b->image, c->image_len, c->id);
-    case PROVE:
-        return no_openings(vmc_host_prove(b->image, c->image_len, c->nonce, c->nonce_len, c->id, b->out, c->out_len));
-    case LAST:
-        return no_openings(vmc_host_last(b->image, c->image_len, c->id, c->reading, b->out, c->out_len));
-    case CONFIRM:
-        return no_openings(vmc_host_confirm(b->image, c->image_len, c->id, c->value, c->reading, c->verdict));
-    default:
-        return no_openings(vmc_host_close(b->image, c->image_len, c->id, c->value, c->reading, c->verdict));
-    }
+    return (struct figures){.number = f.number, .value = f.value, .openings = f.openings};
 }
 
-static vmc_host_read_figures ask_plain(enum plain_lookup lookup, struct buffers *b, const struct call *c)
+static struct figures batch_figures(vmc_host_batch_figures f)
+{
+    struct figures figures = {.number = f.number, .value = f.value};
+    memcpy(figures.numbers, f.numbers, sizeof figures.numbers);
+    return figures;
+}
+
+static struct figures ask_proved(struct buffers *b, const struct call *c)
 {
     switch (c->kind) {
     case START:
-        return no_openings(plain_host_start(b->image, c->image_len, c->reading));
+        return plain_figures(vmc_host_start(b->image, c->image_len, c->reading));
     case OPEN:
-        return no_openings(plain_host_open(lookup, b->image, c->image_len, c->id, c->value, c->reading, c->verdict));
+        return plain_figures(vmc_host_open(b->image, c->image_len, c->id, c->value, c->reading, c->verdict));
     case TICK:
-        return no_openings(plain_host_tick(lookup, b->image, c->image_len, c->nonce, c->nonce_len));
+        return plain_figures(vmc_host_tick(b->image, c->image_len, c->nonce, c->nonce_len));
     case INCREMENT:
-        return no_openings(plain_host_increment(lookup, b->image, c->image_len, c->nonce, c->nonce_len, c->id, c->value, c->verdict));
+        return batch_figures(vmc_host_increment(b->image, c->image_len, c->requests, c->requests_len, c->verdicts, c->verdicts_len));
     case READ:
-        return plain_host_read(lookup, b->image, c->image_len, c->id);
+        return read_figures(vmc_host_read(b->image, c->image_len, c->id));
     case PROVE:
-        return no_openings(plain_host_prove(lookup, b->image, c->image_len, c->nonce, c->nonce_len, c->id, b->out, c->out_len));
+        return plain_figures(vmc_host_prove(b->image, c->image_len, c->nonce, c->nonce_len, c->id, b->out, c->out_len));
     case LAST:
-        return no_openings(plain_host_last(lookup, b->image, c->image_len, c->id, c->reading, b->out, c->out_len));
+        return plain_figures(vmc_host_last(b->image, c->image_len, c->id, c->reading, b->out, c->out_len));
     case CONFIRM:
-        return no_openings(plain_host_confirm(lookup, b->image, c->image_len, c->id, c->value, c->reading, c->verdict));
+        return plain_figures(vmc_host_confirm(b->image, c->image_len, c->id, c->value, c->reading, c->verdict));
     default:
-        return no_openings(plain_host_close(lookup, b->image, c->image_len, c->id, c->value, c->reading, c->verdict));
+        return plain_figures(vmc_host_close(b->image, c->image_len, c->id, c->value, c->reading, c->verdict));
     }
 }
 
-static vmc_host_read_figures ask(int implementation, struct buffers *b, const struct call *c)
+static struct figures ask_plain(enum plain_lookup lookup, struct buffers *b, const struct call *c)
+{
+    switch (c->kind) {
+    case START:
+        return plain_figures(plain_host_start(b->image, c->image_len, c->reading));
+    case OPEN:
+        return plain_figures(plain_host_open(lookup, b->image, c->image_len, c->id, c->value, c->reading, c->verdict));
+    case TICK:
+        return plain_figures(plain_host_tick(lookup, b->image, c->image_len, c->nonce, c->nonce_len));
+    case INCREMENT:
+        return batch_figures(plain_host_increment(lookup, b->image, c->image_len, c->requests, c->requests_len, c->verdicts, c->verdicts_len));
+    case READ:
+        return read_figures(plain_host_read(lookup, b->image, c->image_len, c->id));
+    case PROVE:
+        return plain_figures(plain_host_prove(lookup, b->image, c->image_len, c->nonce, c->nonce_len, c->id, b->out, c->out_len));
+    case LAST:
+        return plain_figures(plain_host_last(lookup, b->image, c->image_len, c->id, c->reading, b->out, c->out_len));
+    case CONFIRM:
+        return plain_figures(plain_host_confirm(lookup, b->image, c->image_len, c->id, c->value, c->reading, c->verdict));
+    default:
+        return plain_figures(plain_host_close(lookup, b->image, c->image_len, c->id, c->value, c->reading, c->verdict));
+    }
+}
+
+static struct figures ask(int implementation, struct buffers *b, const struct call *c)
 {
     return implementation == 0 ? ask_proved(b, c) : ask_plain(implementation == 1 ? PLAIN_SEARCH : PLAIN_TABLE, b, c);
-}
-
-/* xorshift64*, with a fixed seed: every run has the same cases. */
-#define SEED 0x9e3779b97f4a7c15u
-static uint64_t seed = SEED;
-
-static uint32_t below(uint32_t limit)
-{
-    seed ^= seed >> 12;
-    seed ^= seed << 25;
-    seed ^= seed >> 27;
-    return (uint32_t)((seed * 0x2545f4914f6cdd1du >> 32) * limit >> 32);
 }
 
 static uint32_t be32(const uint8_t *p)
@@ -135,25 +151,57 @@ static uint32_t near(uint32_t x)
     return below(8) != 0 ? x : below(2) == 0 ? x + below(5) - 2 : below(UINT32_MAX);
 }
 
+/* The next entry of an image's log behind a place, or NULL where the log, or a damaged image, has no further whole one. */
+static const uint8_t *entry_from(const uint8_t *image, const uint8_t *at)
+{
+    if (at + HEAD_LEN > image + IMAGE_LEN)
+        return NULL;
+    uint32_t count = be32(at + ENTRY_COUNT);
+    return count > VMC_MAX_REQUESTS || at + HEAD_LEN + REQUEST_LEN * count > image + IMAGE_LEN ? NULL : at;
+}
+
+static const uint8_t *behind(const uint8_t *entry)
+{
+    return entry + HEAD_LEN + REQUEST_LEN * be32(entry + ENTRY_COUNT);
+}
+
+static bool names_counter(const uint8_t *entry, uint32_t id)
+{
+    for (uint32_t j = 0; j < be32(entry + ENTRY_COUNT); j++)
+        if (be32(entry + HEAD_LEN + REQUEST_LEN * j + REQUEST_ID) == id)
+            return true;
+    return false;
+}
+
+/* The entry at an index, or NULL. */
+static const uint8_t *entry_at(const uint8_t *image, uint32_t index)
+{
+    const uint8_t *entry = entry_from(image, image + LOG);
+    while (entry != NULL && index-- > 0)
+        entry = entry_from(image, behind(entry));
+    return entry;
+}
+
 /* The value of the record's counter at a reading, as an image that is sound has it. */
 static uint32_t value_at(const uint8_t *image, const uint8_t *record, uint32_t reading)
 {
-    uint32_t value = be32(record + RECORD_VALUE);
-    for (uint32_t k = 0; k < be32(image + ENTRIES); k++) {
-        const uint8_t *entry = image + LOG + ENTRY_LEN * k;
-        if (be32(entry) > be32(record + RECORD_READING) && be32(entry) <= reading && be32(entry + ENTRY_ID) == be32(record))
+    uint32_t value = be32(record + RECORD_VALUE), entries = be32(image + ENTRIES);
+    const uint8_t *entry = entry_from(image, image + LOG);
+    for (uint32_t k = 0; k < entries && entry != NULL; k++, entry = entry_from(image, behind(entry)))
+        if (be32(entry) > be32(record + RECORD_READING) && be32(entry) <= reading && names_counter(entry, be32(record)))
             value = be32(entry);
-    }
     return value;
 }
 
 /* The reading of the last entry that names a counter, 0 where none does. */
 static uint32_t last_named(const uint8_t *image, uint32_t id)
 {
-    uint32_t k = be32(image + ENTRIES);
-    while (k > 0 && be32(image + LOG + ENTRY_LEN * (k - 1) + ENTRY_ID) != id)
-        k--;
-    return k == 0 ? 0 : be32(image + LOG + ENTRY_LEN * (k - 1));
+    uint32_t reading = 0, entries = be32(image + ENTRIES);
+    const uint8_t *entry = entry_from(image, image + LOG);
+    for (uint32_t k = 0; k < entries && entry != NULL; k++, entry = entry_from(image, behind(entry)))
+        if (names_counter(entry, id))
+            reading = be32(entry);
+    return reading;
 }
 
 /* The record of a counter, or NULL where it is not held. */
@@ -171,8 +219,11 @@ static uint32_t some_closed(const uint8_t *image)
 {
     uint32_t entries = be32(image + ENTRIES);
     for (int look = 0; look < 8 && entries != 0; look++) {
-        uint32_t id = be32(image + LOG + ENTRY_LEN * below(entries) + ENTRY_ID);
-        if (id != 0 && record_of(image, id) == NULL)
+        const uint8_t *entry = entry_at(image, below(entries));
+        if (entry == NULL || be32(entry + ENTRY_COUNT) == 0)
+            continue;
+        uint32_t id = be32(entry + HEAD_LEN + REQUEST_LEN * below(be32(entry + ENTRY_COUNT)) + REQUEST_ID);
+        if (record_of(image, id) == NULL)
             return id;
     }
     return 0;
@@ -229,6 +280,32 @@ static enum kind any_kind(const struct habit *habit)
     return others[below(sizeof others / sizeof others[0])];
 }
 
+/* A request at a place of a batch. */
+static void put_request(struct call *c, uint32_t i, uint32_t id, uint32_t before)
+{
+    uint8_t *request = c->requests + REQUEST_LEN * i;
+    memset(request, (int)below(256), VMC_NONCE_LEN);
+    put32(request + REQUEST_ID, id);
+    put32(request + REQUEST_BEFORE, before);
+}
+
+/* A batch of mostly few requests, each of some counter that is held and its current value, or near; now and then of none or of too many, with bytes
+ * that are no requests, or with another number of verdicts. */
+static void choose_batch(struct call *c, const uint8_t *image, const struct habit *habit)
+{
+    uint32_t counters = be32(image + COUNTERS), count = below(4) != 0 ? 1 + below(3) : below(MOST + 1);
+
+    for (uint32_t i = 0; i < count; i++) {
+        uint32_t index = counters == 0 || counters > MAX_COUNTERS ? 0 : below(counters);
+        const uint8_t *record = image + RECORDS + RECORD_LEN * index;
+        uint32_t id = below(30) != 0 && counters != 0 ? be32(record) : below(habit->ids + 1);
+        put_request(c, i, id, near(be32(record + RECORD_CURRENT)));
+        c->verdicts[i] = below(30) != 0 ? 1 : (uint8_t)below(3);
+    }
+    c->requests_len = REQUEST_LEN * count - (count != 0 && below(100) == 0 ? 1 + below(REQUEST_LEN - 1) : 0);
+    c->verdicts_len = below(100) != 0 ? count : below(MOST + 1);
+}
+
 static void choose(struct call *c, const uint8_t *image, const struct habit *habit)
 {
     uint32_t clock = be32(image + CLOCK), entries = be32(image + ENTRIES), counters = be32(image + COUNTERS);
@@ -270,9 +347,11 @@ static void choose(struct call *c, const uint8_t *image, const struct habit *hab
     case LAST:
         c->reading = near(value_at(image, record, entries == 0 ? clock : clock - below(entries)));
         break;
+    case INCREMENT:
+        choose_batch(c, image, habit);
+        break;
     default:
-        c->reading = clock;
-        c->value = near(value_at(image, record, clock));
+        break;
     }
 }
 
@@ -292,7 +371,11 @@ struct tally {
     unsigned long charged, charged_ceiling, charged_among_many, kept;
     /* Refusals of an image that but for the header's last figure is sound. */
     unsigned long by_header_figure;
+    /* Of increment: the numbers of single requests, batches by how many passed, and those refused as a whole by 16. */
+    unsigned long requests[NUMBERS], passed[VMC_MAX_REQUESTS + 1], whole;
 };
+
+static const int request_numbers[] = {0, 15, 16, 17, 22, 24, 25, 29};
 
 static const int close_numbers[] = {0, 14, 15, 16, 17, 21, 22};
 
@@ -355,15 +438,35 @@ static bool by_header_figure(const uint8_t *image, const struct call *c, uint32_
     return vmc_host_read(mended, sizeof mended, 1).number != 14;
 }
 
-static bool same(vmc_host_read_figures a, vmc_host_read_figures b)
+static bool same(const struct figures *a, const struct figures *b)
 {
-    return a.number == b.number && a.value == b.value && a.openings == b.openings;
+    return a->number == b->number && a->value == b->value && a->openings == b->openings &&
+           memcmp(a->numbers, b->numbers, sizeof a->numbers) == 0;
+}
+
+/* Counts a batch by its answer. */
+static void count_batch(struct tally *tally, const struct call *c, const struct figures *figures)
+{
+    uint32_t passed = 0;
+
+    tally->whole += figures->number == 16;
+    if (figures->number != 0)
+        return;
+    for (size_t i = 0; i < c->verdicts_len; i++) {
+        uint32_t number = figures->numbers[i];
+        passed += number == 0;
+        if (number < NUMBERS) {
+            tally->requests[number]++;
+            tally->met[number] += number != 0;
+        }
+    }
+    tally->passed[passed]++;
 }
 
 /* Makes one call by all implementations, each on its own buffers, which are the same before. */
 static void compare_call(struct tally *tally, struct buffers *buffers, const struct call *c)
 {
-    vmc_host_read_figures figures[IMPLEMENTATIONS];
+    struct figures figures[IMPLEMENTATIONS];
     struct before before = before_call(buffers[0].image, c);
     for (int k = 0; k < IMPLEMENTATIONS; k++)
         figures[k] = ask(k, &buffers[k], c);
@@ -373,12 +476,14 @@ static void compare_call(struct tally *tally, struct buffers *buffers, const str
     tally->closes[number] += c->kind == CLOSE;
     tally->with_openings += figures[0].openings > 0;
     tally->by_header_figure += by_header_figure(buffers[0].image, c, number);
+    if (c->kind == INCREMENT)
+        count_batch(tally, c, &figures[0]);
     if (figures[0].number == 0)
         count_done(tally, buffers[0].image, c, figures[0].value, &before);
     for (int k = 1; k < IMPLEMENTATIONS; k++) {
         bool same_image = memcmp(buffers[0].image, buffers[k].image, sizeof buffers[0].image) == 0;
         bool same_out = memcmp(buffers[0].out, buffers[k].out, sizeof buffers[0].out) == 0;
-        if (same(figures[0], figures[k]) && same_image && same_out)
+        if (same(&figures[0], &figures[k]) && same_image && same_out)
             continue;
         if (++tally->differing <= 10)
             printf("call %lu (kind %d) differs: %s %u %u %u, %s %u %u %u%s%s\n", tally->calls, (int)c->kind, names[0],
@@ -418,14 +523,27 @@ static void set_count(uint8_t *image)
         put32(some_record(image) + RECORD_PROOFS, some_count());
 }
 
+/* Gives an entry the digest of its requests as its nonce, where its count is one that an entry may have. */
+static void seal(uint8_t *entry)
+{
+    uint32_t count = be32(entry + ENTRY_COUNT);
+    if (count > VMC_MAX_REQUESTS)
+        return;
+    vmc_digest digest = plain_sha1(entry + HEAD_LEN, REQUEST_LEN * count);
+    memcpy(entry + ENTRY_NONCE, digest.bytes, VMC_NONCE_LEN);
+}
+
 /* One random change of a sound image; any may leave it sound. */
 static void damage(uint8_t *image)
 {
-    uint32_t entries = be32(image + ENTRIES), used = LOG + ENTRY_LEN * entries;
-    uint8_t *entry = image + LOG + ENTRY_LEN * (entries == 0 ? 0 : below(entries));
+    uint32_t entries = be32(image + ENTRIES);
+    const uint8_t *found = entry_at(image, entries == 0 ? 0 : below(entries));
+    uint8_t *entry = image + (found == NULL ? LOG : found - image);
+    uint32_t count = be32(entry + ENTRY_COUNT);
+    uint8_t *request = entry + HEAD_LEN + REQUEST_LEN * (count == 0 || count > VMC_MAX_REQUESTS ? 0 : below(count));
     const uint8_t *from;
 
-    switch (below(11)) {
+    switch (below(13)) {
     case 0:
         image[below(HEADER_LEN)] = (uint8_t)below(256);
         break;
@@ -433,7 +551,7 @@ static void damage(uint8_t *image)
         image[RECORDS + below(LOG - RECORDS)] ^= (uint8_t)(1 + below(255));
         break;
     case 2: /* the last byte of a field, so that the number is near the right one */
-        image[4 * below(used < VMC_IMAGE_LEN ? used / 4 : VMC_IMAGE_LEN / 4) + 3] ^= (uint8_t)(1 + below(3));
+        image[4 * below((LOG + HEAD_LEN * (entries < 1024 ? entries : 1024)) / 4) + 3] ^= (uint8_t)(1 + below(3));
         break;
     case 3: /* one counter's id becomes another's */
         memmove(image + RECORDS + RECORD_LEN * below(MAX_COUNTERS), image + RECORDS + RECORD_LEN * below(MAX_COUNTERS), 4);
@@ -445,11 +563,20 @@ static void damage(uint8_t *image)
         from = some_record(image) + (below(2) == 0 ? RECORD_CURRENT : RECORD_VALUE);
         memmove(some_record(image) + RECORD_CURRENT, from, 4);
         break;
-    case 6: /* an entry names another counter, which may be held or not, or none */
-        entry[ENTRY_ID + 3] = (uint8_t)below(128);
+    case 6: /* a request names another counter, which may be held or not, or none */
+        request[REQUEST_ID + 3] = (uint8_t)below(128);
+        seal(entry);
         break;
-    case 7: /* an entry names none and states no value */
-        memset(entry + ENTRY_ID, 0, 8);
+    case 7: /* a request has another counter's number, or value before */
+        memmove(request + REQUEST_ID, entry + HEAD_LEN + REQUEST_ID, 4 + 4 * below(2));
+        seal(entry);
+        break;
+    case 11: /* another count, or another reading, sealed where that can be */
+        entry[below(2) == 0 ? ENTRY_COUNT + 3 : 3] ^= (uint8_t)(1 + below(15));
+        seal(entry);
+        break;
+    case 12: /* a nonce */
+        entry[ENTRY_NONCE + below(VMC_NONCE_LEN)] ^= (uint8_t)(1 + below(255));
         break;
     case 8: /* the header has a count of proofs */
         put32(image + ZERO_FIGURE, some_count());
@@ -549,8 +676,25 @@ static bool report_proofs(const struct tally *tally)
            tally->charged_among_many > 0 && tally->kept > 0 && tally->by_header_figure > 0;
 }
 
+static bool report_batches(const struct tally *tally)
+{
+    bool all_met = tally->whole > 0;
+    printf("Requests by number:");
+    for (size_t i = 0; i < sizeof request_numbers / sizeof request_numbers[0]; i++) {
+        printf(" %d:%lu", request_numbers[i], tally->requests[request_numbers[i]]);
+        all_met = all_met && tally->requests[request_numbers[i]] > 0;
+    }
+    printf("; batches refused as a whole by 16: %lu, by requests passed:", tally->whole);
+    for (size_t passed = 0; passed <= VMC_MAX_REQUESTS; passed++) {
+        printf(" %zu:%lu", passed, tally->passed[passed]);
+        all_met = all_met && tally->passed[passed] > 0;
+    }
+    printf("\n");
+    return all_met;
+}
+
 /* Whether all implementations agree on all calls, every number was met, so were openings, every call was done at least once, and all that
- * is counted of closes and of counts of proofs was met. */
+ * is counted of closes, of counts of proofs and of batches was met. */
 static bool compare(struct buffers *buffers)
 {
     struct tally tally = {0};
@@ -560,46 +704,45 @@ static bool compare(struct buffers *buffers)
         compare_list(&tally, buffers);
 
     bool calls_met = report_calls(&tally), closes_met = report_closes(&tally), proofs_met = report_proofs(&tally);
-    bool all_met = calls_met && closes_met && proofs_met;
+    bool batches_met = report_batches(&tally), all_met = calls_met && closes_met && proofs_met && batches_met;
     if (!all_met)
-        printf("error: a number, openings or something of a close or of a count of proofs was never met, or a call was never done\n");
+        printf("error: a number, openings or something of a close, of a count of proofs or of a batch was never met, or a call was never done\n");
     return tally.differing == 0 && all_met;
 }
 
 /* ---- timing */
 
-static double now_ns(void)
+/* A batch of so many counters, from the record at an index on, each with its current value. */
+static void share(struct call *c, const uint8_t *image, uint32_t index, uint32_t requests)
 {
-    struct timespec t;
-    clock_gettime(CLOCK_MONOTONIC, &t);
-    return (double)t.tv_sec * 1e9 + (double)t.tv_nsec;
+    c->kind = INCREMENT;
+    for (uint32_t j = 0; j < requests; j++) {
+        const uint8_t *record = image + RECORDS + RECORD_LEN * ((index + j) % MAX_COUNTERS);
+        put_request(c, j, be32(record), be32(record + RECORD_CURRENT));
+        c->verdicts[j] = 1;
+    }
+    c->requests_len = REQUEST_LEN * requests;
+    c->verdicts_len = requests;
 }
 
-static int by_size(const void *a, const void *b)
-{
-    double x = *(const double *)a, y = *(const double *)b;
-    return (x > y) - (x < y);
-}
-
-/* A full table of counters and a log of some entries: the counters' in turn where kind is INCREMENT, of none where it is TICK. */
-static void fill(struct buffers *b, uint32_t entries, enum kind kind)
+/* A full table of counters and a log of some entries of so many requests each, the counters' in turn; none is a tick. */
+static void fill(struct buffers *b, uint32_t entries, uint32_t requests)
 {
     struct call c = {.kind = START, .image_len = VMC_IMAGE_LEN, .reading = 1000000, .nonce_len = VMC_NONCE_LEN, .verdict = 1};
 
     /* The same counters in every image that is timed, whatever was drawn before: how many of them share a hint decides much. */
     seed = SEED;
     ask(0, b, &c);
+    c.kind = OPEN;
     for (uint32_t i = 0; i < MAX_COUNTERS; i++) {
-        c.kind = OPEN;
         c.id = 1 + below(UINT32_MAX - 1);
         c.value = c.reading;
         ask(0, b, &c);
     }
+    c.kind = TICK;
     for (uint32_t i = 0; i < entries; i++) {
-        const uint8_t *record = b->image + RECORDS + RECORD_LEN * (i % MAX_COUNTERS);
-        c.kind = kind;
-        c.id = be32(record);
-        c.value = value_at(b->image, record, be32(b->image + CLOCK));
+        if (requests != 0)
+            share(&c, b->image, requests * i, requests);
         ask(0, b, &c);
     }
 }
@@ -663,7 +806,7 @@ static void measure(const char *title, struct buffers *b, const struct call *c)
 
     (void)sink;
     memcpy(b->image, kept, sizeof kept);
-    vmc_host_read_figures figures = ask(0, b, c);
+    struct figures figures = ask(0, b, c);
     memcpy(b->image, kept, sizeof kept);
     printf("%s: answer %u, value %u\n", title, (unsigned)figures.number, (unsigned)figures.value);
     for (int k = 0; k < IMPLEMENTATIONS; k++) {
@@ -685,32 +828,34 @@ int main(void)
     struct call c = {.image_len = VMC_IMAGE_LEN, .out_len = VMC_PROOF_MAX_LEN, .nonce_len = VMC_NONCE_LEN, .verdict = 1};
     const uint8_t *record = buffers[0].image + RECORDS + RECORD_LEN * (MAX_COUNTERS / 2);
 
-    fill(&buffers[0], VMC_PROOF_MAX_ENTRIES - 1, INCREMENT);
-    c.kind = INCREMENT;
-    c.id = be32(record);
-    c.value = value_at(buffers[0].image, record, be32(buffers[0].image + CLOCK));
-    measure("increment at 1,023 entries", &buffers[0], &c);
-    fill(&buffers[0], VMC_PROOF_MAX_ENTRIES, INCREMENT);
-    c.id = be32(record);
+    fill(&buffers[0], VMC_MAX_UNITS - 1, 1);
+    share(&c, buffers[0].image, MAX_COUNTERS / 2, 1);
+    measure("increment by one request, behind 1,023 entries of one", &buffers[0], &c);
+    fill(&buffers[0], VMC_MAX_UNITS / VMC_MAX_REQUESTS - 1, VMC_MAX_REQUESTS);
+    share(&c, buffers[0].image, MAX_COUNTERS / 2, VMC_MAX_REQUESTS);
+    measure("increment by eight requests, behind 127 entries of eight", &buffers[0], &c);
+    fill(&buffers[0], VMC_MAX_UNITS / VMC_MAX_REQUESTS, VMC_MAX_REQUESTS);
     c.kind = PROVE;
-    measure("prove of 1,024 entries", &buffers[0], &c);
+    c.id = be32(record);
+    measure("prove of 128 entries of eight", &buffers[0], &c);
+    fill(&buffers[0], VMC_MAX_UNITS, 1);
+    c.id = be32(record);
+    measure("prove of 1,024 entries of one", &buffers[0], &c);
     c.kind = READ;
     measure("read at 1,024 entries", &buffers[0], &c);
     uint32_t clock = be32(buffers[0].image + CLOCK);
     confirm_at(&c, CLOSE, buffers[0].image, record, clock);
     measure("close at 1,024 entries, all needed by others", &buffers[0], &c);
-    confirm_others(&buffers[0], record, clock - VMC_PROOF_MAX_ENTRIES / 2);
+    confirm_others(&buffers[0], record, clock - VMC_MAX_UNITS / 2);
     measure("close at 1,024 entries, half of them needed by others", &buffers[0], &c);
-    fill(&buffers[0], VMC_PROOF_MAX_ENTRIES, INCREMENT);
+    fill(&buffers[0], VMC_MAX_UNITS, 1);
     close_half(&buffers[0]);
     c.kind = READ;
     c.id = be32(buffers[0].image + RECORDS);
     measure("read at 1,024 entries, half of them of closed counters", &buffers[0], &c);
-    fill(&buffers[0], VMC_PROOF_MAX_ENTRIES - 2, TICK);
+    fill(&buffers[0], VMC_MAX_UNITS - 2, 0);
     clock = be32(buffers[0].image + CLOCK);
     confirm_at(&c, CONFIRM, buffers[0].image, record, clock);
     measure("confirm at 1,022 ticks", &buffers[0], &c);
-    c.kind = CLOSE;
-    measure("close at 1,022 ticks", &buffers[0], &c);
     return 0;
 }

@@ -7,7 +7,9 @@ use lib.ListN.{length, getD}
 use Rattle.forms.specs.Chain.{followsBy}
 use Rattle.forms.specs.declared.running.Running.{Running}
 use Rattle.forms.specs.Limits.{nonceLen}
+use Rattle.forms.specs.Request.{names, beforeOf, nonceOf, namesTwice}
 use Rattle.forms.specs.Terms.{globalClock}
+use Rattle.digest.specs.Seal.{isSealed}
 use Rattle.validity.specs.Proof.{shapeAt, logOffset, parsed, readNumber}
 use Rattle.validity.specs.ProofLaws.{Reads, parsed-reads, reads-parsed}
 use Rattle.validity.specs.declared.proof.Kind.{Kind}
@@ -15,11 +17,11 @@ use Rattle.validity.specs.declared.proof.Parsed.{Parsed}
 use Rattle.validity.specs.declared.proof.Proof.{Proof}
 use Rattle.desk.specs.Answer.{figures}
 use Rattle.desk.specs.declared.answer.Answer.{Answer}
-use Rattle.desk.specs.Desk.{confirmation, certificate, verdictsBefore, verdictCount, moduleVerdict, ownerVerdict, isOwn, runningTo, badWanted, moduleDenied, wrongReading, breaksChain, laterChecks, accepted, judged, verified}
+use Rattle.desk.specs.Desk.{confirmation, certificate, verdictsBefore, verdictCount, isOwn, runningTo, badWanted, moduleDenied, forged, repeated, wrongReading, breaksChain, laterChecks, accepted, judged, verified}
 use Rattle.desk.specs.DeskLaws.{answerOf, verified-parsed}
 use Rattle.desk.specs.LowestLaws.{lowest-clear}
-use Rattle.assurance.specs.DeskList.{Call, shown, Accepted, closes, kindOf, entryOf}
-use Rattle.assurance.specs.Rows.{test, refusal-passed, rows-passed, answer-behind, none-lowest, wanted-some, verdicts-right, confirmation-right, said-yes, certificate-said, module-said, certificate-closes, last-closes, last-stands, readings-right, closing-right, closing-read, chain-right}
+use Rattle.assurance.specs.DeskList.{Call, shown, Accepted, closes, kindOf, entryOf, moduleSaid, ownerSaid}
+use Rattle.assurance.specs.Rows.{test, refusal-passed, rows-passed, answer-behind, none-lowest, wanted-some, verdicts-right, confirmation-right, said-yes, certificate-said, module-said, digest-right, named-once, certificate-closes, last-closes, last-stands, readings-right, closing-right, closing-read, chain-right}
 
 -- how many entries the proof of a call has
 abbrev pub countOf : Call → ℕ
@@ -45,7 +47,7 @@ pub record Passed (c : Call) : Type 0 where
   pub reads : Reads (c .proof)
   pub last : kindOf c ≡ Kind.Increment → 1 ≤ countOf c
   -- 6
-  pub verdicts : length (c .verdicts) ≡ verdictCount (shapeAt (c .proof))
+  pub verdicts : length (c .verdicts) ≡ verdictCount (c .proof) (shapeAt (c .proof))
   pub zero-or-one : (k : ℕ) → getD (c .verdicts) k 0 ≤ 1
   -- 7
   pub own : confirmation (c .proof) .id ≡ c .id
@@ -54,17 +56,21 @@ pub record Passed (c : Call) : Type 0 where
   pub confirmation-yes : getD (c .verdicts) 0 0 ≡ 1
   -- 9
   pub certificate-yes : kindOf c ≡ Kind.Read → getD (c .verdicts) 1 0 ≡ 1
-  pub module-yes : (k : ℕ) → 1 ≤ k → k ≤ countOf c → moduleVerdict (c .verdicts) (verdictsBefore (kindOf c)) k ≡ 1
+  pub module-yes : (k : ℕ) → 1 ≤ k → k ≤ countOf c → moduleSaid c k ≡ 1
+  -- 30
+  pub digest : (k : ℕ) → 1 ≤ k → k ≤ countOf c → isSealed (entryOf c k) ≡ true
+  -- 31
+  pub once : (k : ℕ) → 1 ≤ k → k ≤ countOf c → namesTwice (entryOf c k .requests) ≡ false
   -- 10
   pub certificate-nonce : kindOf c ≡ Kind.Read → certificate (c .proof) .nonce ≡ c .nonce
-  pub last-own : kindOf c ≡ Kind.Increment → entryOf c (countOf c) .id ≡ c .id
-  pub last-yes : kindOf c ≡ Kind.Increment → ownerVerdict (c .verdicts) (verdictsBefore (kindOf c)) (countOf c) ≡ 1
-  pub last-nonce : kindOf c ≡ Kind.Increment → entryOf c (countOf c) .nonce ≡ c .nonce
+  pub last-own : kindOf c ≡ Kind.Increment → names (c .id) (entryOf c (countOf c) .requests) ≡ true
+  pub last-yes : kindOf c ≡ Kind.Increment → ownerSaid c (countOf c) ≡ 1
+  pub last-nonce : kindOf c ≡ Kind.Increment → nonceOf (c .id) (entryOf c (countOf c) .requests) ≡ c .nonce
   -- 11
   pub readings : (k : ℕ) → 1 ≤ k → k ≤ countOf c → entryOf c k .reading ≡ globalClock (confirmation (c .proof) .reading .0 + k)
   pub certificate-reading : kindOf c ≡ Kind.Read → certificate (c .proof) .reading ≡ closes c
   -- 13
-  pub chained : (k : ℕ) → 1 ≤ k → k ≤ countOf c → followsBy (ownOf c k) (runningIn c (k - 1) .value) (entryOf c k) ≡ true
+  pub chained : (k : ℕ) → 1 ≤ k → k ≤ countOf c → followsBy (ownOf c k) (runningIn c (k - 1) .value) (beforeOf (c .id) (entryOf c k .requests)) ≡ true
   -- what is shown
   pub running : runningOf c ≡ runningIn c (countOf c)
   pub closing : closes c ≡ globalClock (confirmation (c .proof) .reading .0 + countOf c)
@@ -126,14 +132,15 @@ module _ (c : Call) (is-accepted : Accepted c) where
       let before = verdictsBefore (kindOf c) in
       let start = begun c is-accepted in
       let wanted = wanted-some (c .id) (c .nonce) (start .wanted) in
-      let verdicts = verdicts-right (shapeAt s) (c .verdicts) (later-passed 0) in
+      let verdicts = verdicts-right (shapeAt s) s (c .verdicts) (later-passed 0) in
       let confirmed = confirmation-right (confirmation s) (c .id) (later-passed 1) in
-      let elsewhere = later-passed 5 in
+      let elsewhere = later-passed 7 in
+      let last = last-closes (kindOf c) n s (c .verdicts) (c .id) (c .nonce) (wanted .1) elsewhere in
       let some = last-stands (kindOf c) n (start .reads .counted) in
       let readings = readings-right s log (confirmation s .reading) n
-      (lowest-clear (wrongReading s log (confirmation s .reading)) n (none-lowest _ (later-passed 6)))
+      (lowest-clear (wrongReading s log (confirmation s .reading)) n (none-lowest _ (later-passed 8)))
       in
-      let ends = closing-right (kindOf c) n s (later-passed 7) some readings in
+      let ends = closing-right (kindOf c) n s (later-passed 9) some readings in
       let closed = ap (λ (a : Answer). globalClock (figures a .closing)) answered in
       record {
         counter = wanted .0;
@@ -147,19 +154,19 @@ module _ (c : Call) (is-accepted : Accepted c) where
         confirmation-yes = said-yes (getD (c .verdicts) 0 0) (verdicts .1 0) (later-passed 2);
         certificate-yes = λ read. said-yes (getD (c .verdicts) 1 0) (verdicts .1 1) (certificate-said (kindOf c) (c .verdicts) (later-passed 3) read);
         module-yes = λ k one-up up-to.
-            said-yes (moduleVerdict (c .verdicts) before k) (verdicts .1 _)
-            (module-said (c .verdicts) before n (lowest-clear (moduleDenied (c .verdicts) before) n (none-lowest _ (later-passed 4))) k one-up up-to);
+            said-yes (moduleSaid c k) (verdicts .1 _)
+            (module-said s log (c .verdicts) before n (lowest-clear (moduleDenied s log (c .verdicts) before) n (none-lowest _ (later-passed 4))) k one-up up-to);
+        digest = digest-right s log n (lowest-clear (forged s log) n (none-lowest _ (later-passed 5)));
+        once = named-once s log n (lowest-clear (repeated s log) n (none-lowest _ (later-passed 6)));
         certificate-nonce = certificate-closes (kindOf c) n s (c .verdicts) (c .id) (c .nonce) (wanted .1) elsewhere;
-        last-own = λ increment. last-closes (kindOf c) n s (c .verdicts) (c .id) (c .nonce) (wanted .1) elsewhere increment .0 .0;
-        last-yes = λ increment.
-            said-yes (ownerVerdict (c .verdicts) before n) (verdicts .1 _)
-            (last-closes (kindOf c) n s (c .verdicts) (c .id) (c .nonce) (wanted .1) elsewhere increment .0 .1);
-        last-nonce = λ increment. last-closes (kindOf c) n s (c .verdicts) (c .id) (c .nonce) (wanted .1) elsewhere increment .1;
+        last-own = λ increment. last increment .0;
+        last-yes = λ increment. said-yes (ownerSaid c n) (verdicts .1 _) (last increment .1);
+        last-nonce = λ increment. last increment .2;
         readings = readings;
         certificate-reading = λ read. sym (closed ∙ closing-read (kindOf c) n s read);
         chained =
             chain-right s log (c .verdicts) before (c .id) (confirmation s .value) n
-            (lowest-clear (breaksChain s log (c .verdicts) before (c .id) (confirmation s .value)) n (none-lowest _ (later-passed 8)));
+            (lowest-clear (breaksChain s log (c .verdicts) before (c .id) (confirmation s .value)) n (none-lowest _ (later-passed 10)));
         running = ap (λ (a : Answer). record { value = figures a .value; openings = figures a .openings }) answered;
         closing = closed ∙ ends;
       }

@@ -1,64 +1,83 @@
 -- An accepted proof closes no lower than the clock was wherever its nonce was still new: the event that closes it has that nonce, so it
--- stands behind every such place. Assumes nothing.
-use Prim.Native.Nat.{ℕ, _+_, _-_, _≤_}
+-- stands behind every such place. In kind 2 that is the increment that carries the last entry's requests, or there is a clash. Assumes nothing.
+use Prim.Native.Nat.{ℕ, _-_, _≤_}
 use mathlib.Core.Path.{_≡_, refl, sym, ap, subst, _∙_}
+use mathlib.Core.Logic.{_⊎_, inl, inr, ⊎-elim}
 use mathlib.Core.List.{List}
 use native.Mathlib.Decide.{decLe}
 use native.Mathlib.Omega.{arith}
 use lib.ListN.{take, drop}
-use Rattle.forms.specs.Event.{increment, clockRead}
-use Rattle.forms.specs.declared.event.ModuleEvent.{ModuleEvent}
+use Rattle.forms.specs.Bytes.{Bytes}
 use Rattle.forms.specs.declared.terms.GlobalClock.{GlobalClock}
 use Rattle.validity.specs.declared.proof.Kind.{Kind}
-use Rattle.history.specs.History.{adds, clockAfter, incrementAt, Stands}
+use Rattle.history.specs.History.{HistoryEvent, increment, read, list, clockAfter, Stands}
 use Rattle.history.specs.HistoryLaws.{made-stands, stands-within}
-use Rattle.history.specs.Nonce.{New}
-use Rattle.history.specs.NonceLaws.{new-before, new-stands-later, stands-not-new}
+use Rattle.history.specs.Nonce.{Has, New}
+use Rattle.history.specs.NonceLaws.{named-has, new-before, new-stands-later, stands-not-new}
 use Rattle.history.specs.Value.{Signatures}
 use Rattle.desk.specs.Desk.{certificate}
 use Rattle.assurance.specs.Accepted.{Passed, countOf, accepted-passed}
-use Rattle.assurance.specs.DeskList.{Call, Item, history, Accepted, closes, kindOf, entryOf, Truth, Fresh}
-use Rattle.assurance.specs.EntryCounts.{shows-made}
+use Rattle.assurance.specs.DeskList.{Call, Item, history, Accepted, closes, kindOf, entryOf, Truth, Fresh, Clash}
+use Rattle.assurance.specs.EntryCounts.{Carried, entry-reached, entry-carried}
 use Rattle.assurance.specs.ListLaws.{history-grows-to}
 
--- the event that closes the proof of a call at place i: it has the wanted nonce and stands before the call, the clock having come to T by it
+-- the event that closes the proof of a call at place i: it has the wanted nonce and stands before the call, the clock before it
+-- being not above T
 record Closed (first : GlobalClock) (l : List Item) (i : ℕ) (c : Call) : Type 0 where
-  event : ModuleEvent
+  event : HistoryEvent
   reading : GlobalClock
-  own : event .nonce ≡ c .nonce
+  own : Has (c .nonce) event
   stands : Stands first (history (take i l)) reading event
   within : reading .0 ≤ closes c .0
-  reached : closes c .0 ≤ reading .0 + adds (event .event)
 
 module _ (first : GlobalClock) (signed : Signatures) (l : List Item) (i : ℕ) (c : Call) (passed : Passed c) (truth : Truth first signed l i c) where
-  -- in kind 1 it is the certificate's clock read, in kind 2 the last entry's increment
-  closed : (kind : Kind) → kindOf c ≡ kind → Closed first l i c
-  closed Kind.Read kind-is =
+  -- in kind 1 it is the certificate's clock read
+  closed-read : kindOf c ≡ Kind.Read → Closed first l i c
+  closed-read kind-is =
       record {
-        event = clockRead (certificate (c .proof) .nonce);
+        event = read (certificate (c .proof) .nonce);
         reading = certificate (c .proof) .reading;
         own = passed .certificate-nonce kind-is;
         stands = truth .certificate-yes kind-is (passed .certificate-yes kind-is);
         within = omega (arith, ap (λ (t : GlobalClock). t .0) (passed .certificate-reading kind-is));
-        reached = omega (arith, ap (λ (t : GlobalClock). t .0) (passed .certificate-reading kind-is));
       }
-  closed Kind.Increment kind-is =
+
+  -- in kind 2 the increment that carries the last entry's requests, the wanted nonce in one of them
+  closed-increment : kindOf c ≡ Kind.Increment → Carried first l i c (countOf c) → Closed first l i c
+  closed-increment kind-is (fit, is) =
       let n = countOf c in
       let e = entryOf c n in
-      let es = history (take i l) in
-      let some = passed .last kind-is in
-      let shows = truth .module-yes n some (omega arith) (passed .module-yes n some (omega arith)) in
-      let found = shows-made (incrementAt first es (e .reading)) e shows in
-      let place = made-stands first es (e .reading) (found .0) (e .nonce) (found .1) in
-      let ends : e .reading ≡ closes c = passed .readings n some (omega arith) ∙ sym (passed .closing) in
+      let given = list (e .requests) fit in
+      let place = made-stands first (history (take i l)) (e .reading) given is in
+      let ends : e .reading ≡ closes c = passed .readings n (passed .last kind-is) (omega arith) ∙ sym (passed .closing) in
       record {
-        event = increment (found .0) (e .nonce);
+        event = increment given;
         reading = place .0;
-        own = passed .last-nonce kind-is;
+        own =
+            subst (λ (nonce : List ℕ). Has nonce (increment given)) (passed .last-nonce kind-is)
+            (named-has (c .id) (e .requests) fit (passed .last-own kind-is));
         stands = place .2;
         within = omega (arith, place .1, ap (λ (t : GlobalClock). t .0) ends);
-        reached = omega (arith, place .1, ap (λ (t : GlobalClock). t .0) ends);
       }
+
+  closed : Bytes (c .proof) → (kind : Kind) → kindOf c ≡ kind → Closed first l i c ⊎ Clash first l i c
+  closed lent Kind.Read kind-is = inl (closed-read kind-is)
+  closed lent Kind.Increment kind-is =
+      ⊎-elim (λ carried. inl (closed-increment kind-is carried)) inr
+      (entry-carried first signed l i c passed truth lent (countOf c) (passed .last kind-is) (omega arith))
+
+  -- the clock had come to the closing reading before the call
+  pub closing-reached : (kind : Kind) → kindOf c ≡ kind → closes c .0 ≤ clockAfter first (history (take i l)) .0
+  closing-reached Kind.Read kind-is =
+      let k = certificate (c .proof) in
+      let place = truth .certificate-yes kind-is (passed .certificate-yes kind-is) in
+      let ends = passed .certificate-reading kind-is in
+      omega (arith, ap (λ (t : GlobalClock). t .0) ends, stands-within first (history (take i l)) (k .reading) (read (k .nonce)) place .1)
+  closing-reached Kind.Increment kind-is =
+      let n = countOf c in
+      let some = passed .last kind-is in
+      let ends : entryOf c n .reading ≡ closes c = passed .readings n some (omega arith) ∙ sym (passed .closing) in
+      omega (arith, entry-reached first signed l i c passed truth n some (omega arith), ap (λ (t : GlobalClock). t .0) ends)
 
 -- wherever the wanted nonce was still new, the clock was not above the closing reading
 closed-fresh : (first : GlobalClock) (l : List Item) (i : ℕ) (c : Call) → Closed first l i c → Fresh first l c
@@ -69,7 +88,7 @@ closed-fresh first l i c closing j new = from (decLe j i)
         let es = history (take j l) in
         let fs = history (take (i - j) (drop j l)) in
         let there = new-stands-later (c .nonce) first es fs (closing .reading) (closing .event) new (closing .own)
-        (subst (λ (h : List ModuleEvent). Stands first h (closing .reading) (closing .event)) (history-grows-to l j i before) (closing .stands))
+        (subst (λ (h : List HistoryEvent). Stands first h (closing .reading) (closing .event)) (history-grows-to l j i before) (closing .stands))
         in
         omega (arith, stands-within (clockAfter first es) fs (closing .reading) (closing .event) there .0, closing .within)
     from (no behind) =
@@ -78,15 +97,13 @@ closed-fresh first l i c closing j new = from (decLe j i)
         absurd (stands-not-new (c .nonce) first es (closing .reading) (closing .event) (closing .own) (closing .stands)
         (new-before (c .nonce) es fs (subst (New (c .nonce)) (history-grows-to l i j (omega arith)) new)))
 
--- an accepted call is fresh where its verdicts are true
-pub accepted-fresh : (first : GlobalClock) (signed : Signatures) (l : List Item) (i : ℕ) (c : Call) → Accepted c → Truth first signed l i c → Fresh first l c
-accepted-fresh first signed l i c accepted truth =
-    closed-fresh first l i c (closed first signed l i c (accepted-passed c accepted) truth (kindOf c) refl)
+-- an accepted call is fresh where its verdicts are true, or there is a clash in its proof
+pub accepted-fresh : (first : GlobalClock) (signed : Signatures) (l : List Item) (i : ℕ) (c : Call) → Bytes (c .proof) → Accepted c → Truth first signed l i c
+    → Fresh first l c ⊎ Clash first l i c
+accepted-fresh first signed l i c lent accepted truth =
+    ⊎-elim (λ closing. inl (closed-fresh first l i c closing)) inr (closed first signed l i c (accepted-passed c accepted) truth lent (kindOf c) refl)
 
--- and the clock had come to its closing reading before it
+-- the clock had come to its closing reading before it
 pub accepted-reached : (first : GlobalClock) (signed : Signatures) (l : List Item) (i : ℕ) (c : Call) → Accepted c → Truth first signed l i c
     → closes c .0 ≤ clockAfter first (history (take i l)) .0
-accepted-reached first signed l i c accepted truth =
-    let closing = closed first signed l i c (accepted-passed c accepted) truth (kindOf c) refl in
-    let within = stands-within first (history (take i l)) (closing .reading) (closing .event) (closing .stands) in
-    omega (arith, closing .reached, within .1)
+accepted-reached first signed l i c accepted truth = closing-reached first signed l i c (accepted-passed c accepted) truth (kindOf c) refl

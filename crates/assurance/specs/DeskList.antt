@@ -1,8 +1,9 @@
--- The desk's half of demand 3, as a statement: document 01, "The two lists of demand 3". Definitions alone; the proof stands in files of
--- its own. Assumes nothing.
+-- The desk's half of demand 3, as a statement: document 01, "The two lists of demand 3", and document 02, Note 7. Definitions alone; the proof stands in
+-- files of its own. Assumes nothing.
 use Prim.Native.Nat.{ℕ, _≤_, _<_}
 use mathlib.Core.Path.{_≡_}
 use mathlib.Core.Bool.{true, false}
+use mathlib.Core.Logic.{_⊎_}
 use mathlib.Core.List.{List, [], _∷_}
 use mathlib.Core.Option.{some}
 use lib.ListN.{getD, take, getElem?}
@@ -10,15 +11,17 @@ use Rattle.forms.specs.Terms.{globalClock}
 use Rattle.forms.specs.declared.terms.CounterId.{CounterId}
 use Rattle.forms.specs.declared.terms.GlobalClock.{GlobalClock}
 use Rattle.forms.specs.declared.confirmation.Confirmation.{Confirmation}
-use Rattle.forms.specs.declared.entry.Entry.{Entry}
-use Rattle.forms.specs.declared.event.Carried.{Carried}
-use Rattle.forms.specs.declared.event.ModuleEvent.{ModuleEvent}
+use Rattle.forms.specs.declared.request.Request.{Request}
+use Rattle.forms.specs.Bytes.{Bytes}
+use Rattle.forms.specs.Entry.{Entry}
+use Rattle.forms.specs.Request.{RequestsFit, names, nonceOf, beforeOf, joined}
+use Rattle.digest.specs.Sha1.{sha1}
 use Rattle.validity.specs.Proof.{logOffset, shapeAt}
 use Rattle.validity.specs.declared.proof.Kind.{Kind}
-use Rattle.history.specs.History.{clockAfter, Made, made, unmade, incrementAt, ReadStands}
+use Rattle.history.specs.History.{HistoryEvent, list, givenNonce, clockAfter, Made, made, unmade, incrementAt, ReadStands}
 use Rattle.history.specs.Nonce.{New}
 use Rattle.history.specs.Openings.{openingsBetween}
-use Rattle.history.specs.Value.{Signatures, Request, valueAt}
+use Rattle.history.specs.Value.{Signatures, valueAt}
 use Rattle.desk.specs.Answer.{figures}
 use Rattle.desk.specs.declared.answer.Figures.{Figures}
 use Rattle.desk.specs.Desk.{verified, confirmation, certificate, entry, verdictsBefore, moduleVerdict, ownerVerdict}
@@ -34,7 +37,7 @@ pub record Call : Type 0 where
 
 -- "The desk's list holds module events, owner's confirmations and desk calls"
 pub data Item : Type 0 where
-  event : ModuleEvent → Item
+  event : HistoryEvent → Item
   confirmed : Confirmation → Item
   call : Call → Item
 
@@ -43,7 +46,7 @@ abbrev pub At : List Item → ℕ → Item → Type 0
 At l i x = getElem? l i ≡ some x
 
 -- "Its events, in order, are the history, and nothing else moves the clock"
-unfoldable pub history : List Item → List ModuleEvent
+unfoldable pub history : List Item → List HistoryEvent
 history [] = []
 history (event e ∷ l) = e ∷ history l
 history (confirmed k ∷ l) = history l
@@ -71,33 +74,39 @@ kindOf c = shapeAt (c .proof) .kind
 abbrev pub entryOf : Call → ℕ → Entry
 entryOf c k = entry (c .proof) (logOffset (kindOf c)) k
 
--- the request that an entry states
-abbrev pub requestOf : Entry → Request
-requestOf e = record { nonce = e .nonce; id = e .id; before = e .before }
+-- the counter's request in an entry that names it
+abbrev pub requestOf : CounterId → Entry → Request
+requestOf id e = record { nonce = nonceOf id (e .requests); id = id; before = beforeOf id (e .requests) }
 
--- an increment of the history shows an entry's fields: "An increment without request has box 0, value 0 and its nonce"
+-- "A module's yes for an entry now means that the history has an increment with its t and nonce, no more"
 abbrev pub Shows : Made → Entry → Type 0
-Shows (made (Carried.Request id before) nonce) e = (id ≡ e .id) × (before ≡ e .before) × (nonce ≡ e .nonce)
-Shows (made Carried.Tick nonce) e = (e .id .0 ≡ 0) × (e .before ≡ 0) × (nonce ≡ e .nonce)
+Shows (made given) e = givenNonce given ≡ e .nonce
 Shows unmade e = ⊥
 
+-- the module's verdict on entry k, and the owner's on the wanted counter's request in it
+abbrev pub moduleSaid : Call → ℕ → ℕ
+moduleSaid c k = moduleVerdict (c .proof) (logOffset (kindOf c)) (c .verdicts) (verdictsBefore (kindOf c)) k
+
+abbrev pub ownerSaid : Call → ℕ → ℕ
+ownerSaid c k = ownerVerdict (c .proof) (logOffset (kindOf c)) (c .verdicts) (verdictsBefore (kindOf c)) (c .id) k
+
 -- the verdicts of a call at place i that count. "A verdict speaks of what stands before its call". Of the confirmation, the certificate and the
--- module a no refuses the proof, so their yes is supposed true. An owner's verdict counts in entries of the wanted counter alone, where no passes the
--- entry over: it is supposed true both ways.
+-- module a no refuses the proof, so their yes is supposed true. An owner's verdict counts on requests of the wanted counter alone, where no passes the
+-- request over: it is supposed true both ways.
 pub record Truth (first : GlobalClock) (signed : Signatures) (l : List Item) (i : ℕ) (c : Call) : Type 0 where
   -- the owner's on the confirmation: "a confirmation is signed when it stands there"
   pub confirmation-yes : getD (c .verdicts) 0 0 ≡ 1 → (j : ℕ) × (j < i) × At l j (confirmed (confirmation (c .proof)))
   -- the module's on the clock certificate, in kind 1: the history has that clock read
   pub certificate-yes : kindOf c ≡ Kind.Read → getD (c .verdicts) 1 0 ≡ 1
       → ReadStands first (history (take i l)) (certificate (c .proof) .reading) (certificate (c .proof) .nonce)
-  -- the module's on entry k: the history has that increment with all its fields
-  pub module-yes : (k : ℕ) → 1 ≤ k → k ≤ shapeAt (c .proof) .count → moduleVerdict (c .verdicts) (verdictsBefore (kindOf c)) k ≡ 1
+  -- the module's on entry k: the history has an increment with its reading and its nonce
+  pub module-yes : (k : ℕ) → 1 ≤ k → k ≤ shapeAt (c .proof) .count → moduleSaid c k ≡ 1
       → Shows (incrementAt first (history (take i l)) (entryOf c k .reading)) (entryOf c k)
-  -- the owner's on entry k of the wanted counter: its request is signed, or it is not
-  pub owner-yes : (k : ℕ) → 1 ≤ k → k ≤ shapeAt (c .proof) .count → entryOf c k .id ≡ c .id
-      → ownerVerdict (c .verdicts) (verdictsBefore (kindOf c)) k ≡ 1 → signed (requestOf (entryOf c k)) ≡ true
-  pub owner-no : (k : ℕ) → 1 ≤ k → k ≤ shapeAt (c .proof) .count → entryOf c k .id ≡ c .id
-      → ownerVerdict (c .verdicts) (verdictsBefore (kindOf c)) k ≡ 0 → signed (requestOf (entryOf c k)) ≡ false
+  -- the owner's on the wanted counter's request in entry k: it is signed, or it is not
+  pub owner-yes : (k : ℕ) → 1 ≤ k → k ≤ shapeAt (c .proof) .count → names (c .id) (entryOf c k .requests) ≡ true
+      → ownerSaid c k ≡ 1 → signed (requestOf (c .id) (entryOf c k)) ≡ true
+  pub owner-no : (k : ℕ) → 1 ≤ k → k ≤ shapeAt (c .proof) .count → names (c .id) (entryOf c k .requests) ≡ true
+      → ownerSaid c k ≡ 0 → signed (requestOf (c .id) (entryOf c k)) ≡ false
 
 -- ---- suppositions
 
@@ -145,9 +154,36 @@ pub record Sound (first : GlobalClock) (signed : Signatures) (l : List Item) (c 
 abbrev pub Fresh : GlobalClock → List Item → Call → Type 0
 Fresh first l c = (j : ℕ) → New (c .nonce) (history (take j l)) → clockAfter first (history (take j l)) .0 ≤ closes c .0
 
+-- "two different byte strings with one digest are exhibited: the joined requests of an entry, in the proof .. and those of the history's increment at
+-- its t", of a call at place i
+pub record Clash (first : GlobalClock) (l : List Item) (i : ℕ) (c : Call) : Type 0 where
+  pub entry : ℕ
+  pub low : 1 ≤ entry
+  pub high : entry ≤ shapeAt (c .proof) .count
+  pub given : List Request
+  pub fit : RequestsFit given
+  pub stands : incrementAt first (history (take i l)) (entryOf c entry .reading) ≡ made (list given fit)
+  pub differ : joined (entryOf c entry .requests) ≡ joined given → ⊥
+  pub agree : sha1 (joined (entryOf c entry .requests)) ≡ sha1 (joined given)
+
+-- in the proof of a call "or one accepted earlier for the box"
+pub record Clashed (first : GlobalClock) (l : List Item) (id : CounterId) (i : ℕ) : Type 0 where
+  pub place : ℕ
+  pub from : Call
+  pub up-to : place ≤ i
+  pub stands : At l place (call from)
+  pub own : from .id ≡ id
+  pub passed : Accepted from
+  pub clash : Clash first l place from
+
+-- what the desk is handed are bytes, as the code's types give it
+abbrev pub Lent : List Item → Type 0
+Lent l = (i : ℕ) (c : Call) → At l i (call c) → Bytes (c .proof)
+
 -- For every first reading, every choice of signed requests and every list: each accepted call is sound where demand 3's suppositions of
--- its counter hold up to the call, and fresh where its verdicts are true.
+-- its counter hold up to the call, and fresh where its verdicts are true; or a clash is exhibited, for freshness in the call's own proof.
 abbrev pub DeskClaim : Type 0
 DeskClaim =
-    (first : GlobalClock) (signed : Signatures) (l : List Item) (i : ℕ) (c : Call) → At l i (call c) → Accepted c
-    → (Supposed first signed l (c .id) i → Sound first signed l c) × (Truth first signed l i c → Fresh first l c)
+    (first : GlobalClock) (signed : Signatures) (l : List Item) → Lent l → (i : ℕ) (c : Call) → At l i (call c) → Accepted c
+    → (Supposed first signed l (c .id) i → Sound first signed l c ⊎ Clashed first l (c .id) i)
+    × (Truth first signed l i c → Fresh first l c ⊎ Clash first l i c)

@@ -3,9 +3,9 @@ use Rattle.assurance.specs.DeskList.{DeskClaim}
 use Rattle.assurance.specs.DeskFreshness.{accepted-fresh}
 use Rattle.assurance.specs.DeskSoundness.{accepted-sound}
 
--- each accepted call is sound where demand 3's suppositions of its counter hold, and fresh where its verdicts are true
+-- each accepted call is sound where demand 3's suppositions of its counter hold, and fresh where its verdicts are true, or a clash is exhibited
 pub desk-claim : DeskClaim
-desk-claim first signed l i c stands accepted = (
-  accepted-sound first signed l i c stands accepted,
-  accepted-fresh first signed l i c accepted,
+desk-claim first signed l lent i c stands accepted = (
+  accepted-sound first signed l lent i c stands accepted,
+  accepted-fresh first signed l i c (lent i c stands) accepted,
 )

@@ -1,9 +1,10 @@
 -- Each accepted call shows the value that the history gives its counter at the reading that the proof closes on, by induction on its place:
 -- its confirmation is the counter's opening or was made from a proof accepted before. It shows the history's openings since that
--- confirmation. Nothing is supposed of what stands after the call. Assumes nothing.
+-- confirmation. Or there is a clash, in its own proof or in one that the induction comes by. Nothing is supposed of what stands after the call. Assumes
+-- nothing.
 use Prim.Native.Nat.{ℕ, zero, suc, _+_, _-_, _≤_, _<_}
 use mathlib.Core.Path.{_≡_, refl, sym, ap, subst, subst₂, _∙_}
-use mathlib.Core.Logic.{_⊎_, inl, inr}
+use mathlib.Core.Logic.{_⊎_, inl, inr, ⊎-elim}
 use mathlib.Core.List.{List}
 use native.Mathlib.Nat.{le-refl, zero-add}
 use native.Mathlib.Omega.{arith}
@@ -20,8 +21,8 @@ use Rattle.history.specs.ValueLaws.{valueAt-opened, valueAt-walks-on}
 use Rattle.history.specs.Walk.{pass, walk}
 use Rattle.desk.specs.Desk.{confirmation, verdictsBefore}
 use Rattle.assurance.specs.Accepted.{Passed, countOf, runningOf, accepted-passed}
-use Rattle.assurance.specs.DeskList.{Call, Item, confirmed, call, At, history, shown, Accepted, closes, kindOf, Truth, Unopened, Opening, MadeFrom, Supposed, Sound}
-use Rattle.assurance.specs.EntryCounts.{entry-counts}
+use Rattle.assurance.specs.DeskList.{Call, Item, confirmed, call, At, history, shown, Accepted, closes, kindOf, Truth, Unopened, Opening, MadeFrom, Supposed, Sound, Clashed, Lent}
+use Rattle.assurance.specs.EntryCounts.{Linked, entries-linked, entry-counts}
 use Rattle.assurance.specs.EntryWalk.{placed-walk}
 use Rattle.assurance.specs.ListLaws.{Opened, opened-or-not}
 
@@ -47,11 +48,11 @@ module _ (first : GlobalClock) (signed : Signatures) (l : List Item) where
       }
 
   -- value and openings that a call shows, along the clock
-  call-walked : (i : ℕ) (c : Call) → Passed c → Truth first signed l i c →
+  call-walked : (i : ℕ) (c : Call) → Passed c → Truth first signed l i c → Linked first l i c (countOf c) →
       let counting = counts signed (c .id) first (history l) in
       let k = confirmation (c .proof) in
       runningOf c ≡ record { value = walk (pass counting) (k .value) (k .reading) (countOf c); openings = 0 + numberOf counting (k .reading .0) (countOf c) }
-  call-walked i c passed truth =
+  call-walked i c passed truth linked =
       let s = c .proof in
       let n = countOf c in
       let start = confirmation s .reading in
@@ -59,27 +60,27 @@ module _ (first : GlobalClock) (signed : Signatures) (l : List Item) where
       passed .running
       ∙ placed-walk counting s (logOffset (kindOf c)) (c .verdicts) (verdictsBefore (kindOf c)) (c .id) (confirmation s .value) (start .0) n (λ k low high. (
         passed .readings k low high,
-        ap counting (sym (passed .readings k low high)) ∙ entry-counts first signed l i c passed truth k low high,
+        ap counting (sym (passed .readings k low high)) ∙ entry-counts first signed l i c passed truth k low high (linked k low high),
       ))
       ∙ running-walk counting (fromValue (confirmation s .value)) start n
 
   -- the openings are the history's, from the proof's own confirmation up to the reading that it closes on
-  pub call-openings : (i : ℕ) (c : Call) → Passed c → Truth first signed l i c
+  pub call-openings : (i : ℕ) (c : Call) → Passed c → Truth first signed l i c → Linked first l i c (countOf c)
       → shown c .openings ≡ openingsBetween signed (c .id) first (history l) (confirmation (c .proof) .reading) (closes c)
   unfolding openingsBetween
-  call-openings i c passed truth =
+  call-openings i c passed truth linked =
       let start = confirmation (c .proof) .reading in
       let counting = counts signed (c .id) first (history l) in
       let after : closes c .0 - start .0 ≡ countOf c = omega (arith, ap (λ (t : GlobalClock). t .0) (passed .closing)) in
-      ap (λ (r : Running). r .openings) (call-walked i c passed truth)
+      ap (λ (r : Running). r .openings) (call-walked i c passed truth linked)
       ∙ zero-add (numberOf counting (start .0) (countOf c))
       ∙ ap (numberOf counting (start .0)) (sym after)
 
   -- from the confirmation's value, the value shown
-  call-settled : (i : ℕ) (c : Call) → Passed c → Truth first signed l i c
+  call-settled : (i : ℕ) (c : Call) → Passed c → Truth first signed l i c → Linked first l i c (countOf c)
       → Settled first signed l (c .id) (confirmation (c .proof) .reading) (confirmation (c .proof) .value)
       → Settled first signed l (c .id) (closes c) (shown c .value)
-  call-settled i c passed truth settled =
+  call-settled i c passed truth linked settled =
       let n = countOf c in
       let start = confirmation (c .proof) .reading in
       let counting = counts signed (c .id) first (history l) in
@@ -90,33 +91,40 @@ module _ (first : GlobalClock) (signed : Signatures) (l : List Item) where
         opens = settled .opens;
         within = subst (λ (t : GlobalClock). opened .0 ≤ t .0) (sym (passed .closing)) (omega (arith, settled .within));
         given =
-            ap (λ (r : Running). r .value) (call-walked i c passed truth)
+            ap (λ (r : Running). r .value) (call-walked i c passed truth linked)
             ∙ ap (λ (v : ℕ). walk (pass counting) v start n) (settled .given)
             ∙ sym (valueAt-walks-on signed (c .id) first (history l) opened start n (settled .within))
             ∙ ap (valueAt signed (c .id) first (history l) opened) (sym (passed .closing));
       }
 
-  module _ (id : CounterId) (i : ℕ) (supposed : Supposed first signed l id i) where
+  module _ (lent : Lent l) (id : CounterId) (i : ℕ) (supposed : Supposed first signed l id i) where
     -- a confirmation of the counter, where the calls before it are settled
     confirmation-settled : (j : ℕ) (k : Confirmation) → j ≤ i → At l j (confirmed k) → k .id ≡ id
-        → ((place : ℕ) (c : Call) → place < j → At l place (call c) → c .id ≡ id → Accepted c → Settled first signed l id (closes c) (shown c .value))
-        → Settled first signed l id (k .reading) (k .value)
+        → ((place : ℕ) (c : Call) → place < j → At l place (call c) → c .id ≡ id → Accepted c
+        → Settled first signed l id (closes c) (shown c .value) ⊎ Clashed first l id i)
+        → Settled first signed l id (k .reading) (k .value) ⊎ Clashed first l id i
     confirmation-settled j k up-to stands own before = from (opened-or-not l id j)
       where
-        made : MadeFrom l j k → Settled first signed l id (k .reading) (k .value)
+        made : MadeFrom l j k → Settled first signed l id (k .reading) (k .value) ⊎ Clashed first l id i
         made m =
-            subst₂ (λ (t : GlobalClock) (v : ℕ). Settled first signed l id t v) (m .reading) (m .value)
+            subst₂ (λ (t : GlobalClock) (v : ℕ). Settled first signed l id t v ⊎ Clashed first l id i) (m .reading) (m .value)
             (before (m .place) (m .from) (m .earlier) (m .stands) (m .id ∙ own) (m .accepted))
 
-        from : Unopened l id j ⊎ Opened l id j → Settled first signed l id (k .reading) (k .value)
+        from : Unopened l id j ⊎ Opened l id j → Settled first signed l id (k .reading) (k .value) ⊎ Clashed first l id i
         from (inl unopened) =
             let opens : Opening l id j k = record { stands = stands; own = own; before = unopened } in
-            opening-settled id j k opens (supposed .opened j k up-to opens)
+            inl (opening-settled id j k opens (supposed .opened j k up-to opens))
         from (inr found) = made (supposed .others j (found .place) k (found .opening) up-to (found .opens) (found .earlier) stands own)
+
+    -- the entries of an accepted call of the counter are the history's, or there is a clash
+    call-linked : (j : ℕ) (c : Call) → j ≤ i → At l j (call c) → c .id ≡ id → Accepted c → Linked first l j c (countOf c) ⊎ Clashed first l id i
+    call-linked j c up-to stands own accepted =
+        ⊎-elim inl (λ clash. inr (record { place = j; from = c; up-to = up-to; stands = stands; own = own; passed = accepted; clash = clash }))
+        (entries-linked first signed l j c (accepted-passed c accepted) (supposed .truth j c up-to stands own accepted) (lent j c stands))
 
     -- every accepted call of the counter up to the place, by a bound on its own place
     settled-below : (bound j : ℕ) (c : Call) → j < bound → j ≤ i → At l j (call c) → c .id ≡ id → Accepted c
-        → Settled first signed l id (closes c) (shown c .value)
+        → Settled first signed l id (closes c) (shown c .value) ⊎ Clashed first l id i
     settled-below zero j c below up-to stands own accepted = absurd (omega arith)
     settled-below (suc bound) j c below up-to stands own accepted =
         let passed = accepted-passed c accepted in
@@ -125,20 +133,31 @@ module _ (first : GlobalClock) (signed : Signatures) (l : List Item) where
         let settled = confirmation-settled (confirms .0) (confirmation (c .proof)) (omega (arith, confirms .1)) (confirms .2) (passed .own ∙ own)
         (λ place c′ earlier. settled-below bound place c′ (omega (arith, confirms .1)) (omega (arith, confirms .1)))
         in
-        subst (λ (x : CounterId). Settled first signed l x (closes c) (shown c .value)) own
-        (call-settled j c passed truth
-        (subst (λ (x : CounterId). Settled first signed l x (confirmation (c .proof) .reading) (confirmation (c .proof) .value)) (sym own) settled))
+        ⊎-elim (λ linked. ⊎-elim (λ start. inl (from-settled linked start)) inr settled) inr (call-linked j c up-to stands own accepted)
+      where
+        from-settled : Linked first l j c (countOf c) → Settled first signed l id (confirmation (c .proof) .reading) (confirmation (c .proof) .value)
+            → Settled first signed l id (closes c) (shown c .value)
+        from-settled linked start =
+            subst (λ (x : CounterId). Settled first signed l x (closes c) (shown c .value)) own
+            (call-settled j c (accepted-passed c accepted) (supposed .truth j c up-to stands own accepted) linked
+            (subst (λ (x : CounterId). Settled first signed l x (confirmation (c .proof) .reading) (confirmation (c .proof) .value)) (sym own) start))
 
-  -- an accepted call is sound where what demand 3 supposes of its counter holds up to the call
-  pub accepted-sound : (i : ℕ) (c : Call) → At l i (call c) → Accepted c → Supposed first signed l (c .id) i → Sound first signed l c
-  accepted-sound i c stands accepted supposed =
-      let settled = settled-below (c .id) i supposed (suc i) i c (omega arith) (omega arith) stands refl accepted in
-      let truth = supposed .truth i c (omega arith) stands refl accepted in
-      record {
-        place = settled .place;
-        opening = settled .opening;
-        opens = settled .opens;
-        within = settled .within;
-        value = settled .given;
-        openings = call-openings i c (accepted-passed c accepted) truth;
-      }
+  -- an accepted call is sound where what demand 3 supposes of its counter holds up to the call, or there is a clash
+  pub accepted-sound : Lent l → (i : ℕ) (c : Call) → At l i (call c) → Accepted c → Supposed first signed l (c .id) i
+      → Sound first signed l c ⊎ Clashed first l (c .id) i
+  accepted-sound lent i c stands accepted supposed =
+      ⊎-elim
+      (λ linked. ⊎-elim (λ settled. inl (sound linked settled)) inr
+      (settled-below lent (c .id) i supposed (suc i) i c (omega arith) (omega arith) stands refl accepted))
+      inr (call-linked lent (c .id) i supposed i c (omega arith) stands refl accepted)
+    where
+      sound : Linked first l i c (countOf c) → Settled first signed l (c .id) (closes c) (shown c .value) → Sound first signed l c
+      sound linked settled =
+          record {
+            place = settled .place;
+            opening = settled .opening;
+            opens = settled .opens;
+            within = settled .within;
+            value = settled .given;
+            openings = call-openings i c (accepted-passed c accepted) (supposed .truth i c (omega arith) stands refl accepted) linked;
+          }

@@ -11,7 +11,7 @@ use Rattle.forms.specs.TestsLaws.{both}
 use Rattle.forms.specs.declared.running.Running.{Running}
 use Rattle.forms.specs.declared.terms.CounterId.{CounterId}
 use Rattle.forms.specs.declared.terms.GlobalClock.{GlobalClock}
-use Rattle.validity.specs.Proof.{encode, proofLen, shapeOf}
+use Rattle.validity.specs.Proof.{encode, fieldsLen}
 use Rattle.log_image.specs.ImageRoundTrip.{StateFits, decode-fits}
 use Rattle.log_image.specs.State.{State, decode}
 use Rattle.log_image.specs.Sound.{holds, laidOut, soundState, sound}
@@ -52,7 +52,7 @@ module _ (s : List ℕ) (bytes : Bytes s) (id : CounterId) (id-fits : id .0 < 2 
       ≡ Answer.Accepted (readRunning s id) (decode s .clock))
   prove-call-accepted nonce room e =
       let st : State = decode s in
-      let len : ℕ = proofLen (shapeOf (proofOf st nonce id)) in
+      let len : ℕ = fieldsLen (proofOf st nonce id) in
       let passed = settled-passed s (proveRefusal st nonce id len room) len (counted st id) e in
       let rows = prove-passed st nonce id len room (passed .1) in
       let state = state-sound (passed .0) in
@@ -68,7 +68,7 @@ module _ (s : List ℕ) (bytes : Bytes s) (id : CounterId) (id-fits : id .0 < 2 
       ≡ Answer.Accepted (lastRunning s id t) t
   last-call-accepted t room e =
       let st : State = decode s in
-      let len : ℕ = proofLen (shapeOf (lastOf st id t)) in
+      let len : ℕ = fieldsLen (lastOf st id t) in
       let passed = settled-passed s (lastRefusal st id t len room) len (counted st id) e in
       let rows = last-passed st id t len room (passed .1) in
       let state = state-sound (passed .0) in

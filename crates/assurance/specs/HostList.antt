@@ -1,4 +1,5 @@
--- The host's half of demand 3, as a statement: document 01, "The two lists of demand 3", with document 02's close among the calls.
+-- The host's half of demand 3, as a statement: document 01, "The two lists of demand 3", with document 02's close and batches among the
+-- calls.
 -- Definitions alone; the proof stands in files of its own. Assumes nothing.
 use Prim.Native.Nat.{ℕ, _^_, _<_}
 use mathlib.Core.Path.{_≡_}
@@ -25,7 +26,7 @@ pub data HostCall : Type 0 where
   start : GlobalClock → HostCall
   «open» : Confirmation → ℕ → HostCall
   tick : List ℕ → HostCall
-  increment : List ℕ → CounterId → ℕ → ℕ → HostCall
+  increment : List ℕ → List ℕ → HostCall
   read : CounterId → HostCall
   prove : List ℕ → CounterId → List ℕ → HostCall
   last : CounterId → GlobalClock → List ℕ → HostCall
@@ -37,19 +38,19 @@ abbrev pub settledBy : List ℕ → HostCall → Settled
 settledBy s (start clock) = startCall s clock
 settledBy s («open» c verdict) = openCall s c verdict
 settledBy s (tick nonce) = tickCall s nonce
-settledBy s (increment nonce id before verdict) = incrementCall s nonce id before verdict
+settledBy s (increment requests verdicts) = incrementCall s requests verdicts
 settledBy s (read id) = record { figures = record { number = readCall s id .number; value = readCall s id .value }; image = s }
 settledBy s (prove nonce id output) = proveCall s nonce id (length output)
 settledBy s (last id t output) = lastCall s id t (length output)
 settledBy s (confirm c verdict) = confirmCall s c verdict
 settledBy s (close c verdict) = closeCall s c verdict
 
--- the widths of what a call is handed, which the code's types give: numbers of 32 bits, nonces of bytes
+-- the widths of what a call is handed, which the code's types give: numbers of 32 bits, nonces and requests of bytes
 abbrev pub Widths : HostCall → Type 0
 Widths (start clock) = clock .0 < 2 ^ 32
 Widths («open» c verdict) = ConfirmationFits c
 Widths (tick nonce) = Bytes nonce
-Widths (increment nonce id before verdict) = Bytes nonce × (id .0 < 2 ^ 32) × (before < 2 ^ 32)
+Widths (increment requests verdicts) = Bytes requests
 Widths (read id) = id .0 < 2 ^ 32
 Widths (prove nonce id output) = Bytes nonce × (id .0 < 2 ^ 32)
 Widths (last id t output) = id .0 < 2 ^ 32
@@ -87,7 +88,7 @@ Fair s (last id t output) =
 Fair s (start clock) = Unit
 Fair s («open» c verdict) = Unit
 Fair s (tick nonce) = Unit
-Fair s (increment nonce id before verdict) = Unit
+Fair s (increment requests verdicts) = Unit
 Fair s (read id) = Unit
 Fair s (confirm c verdict) = Unit
 Fair s (close c verdict) = Unit

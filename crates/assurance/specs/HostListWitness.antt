@@ -1,40 +1,48 @@
 -- The host's claim speaks of something: a list along which prove and last are not refused, so that the desk accepts what they write. From a
--- start at 100, counter 7 is opened and raised once; prove then shows 101, and last for 101 shows 101. Assumes nothing.
+-- start at 100, counters 7 and 9 are opened and share one increment, in whose batch a second request of 7 is refused; prove for 9 then shows 101, and
+-- last of 7 for 101 shows 101. Assumes nothing.
 use Prim.Native.Nat.{ℕ, zero, suc, _+_, _<_}
-use mathlib.Core.Path.{_≡_, refl, ap, ap₂, subst, _∙_}
-use mathlib.Core.Bool.{Bool, true, cond}
+use mathlib.Core.Path.{_≡_, refl, sym, ap, ap₂, subst, _∙_}
+use mathlib.Core.Bool.{Bool, true, false, cond}
 use mathlib.Core.List.{List, [], _∷_}
-use lib.Dec.{lit<}
-use lib.ListN.{length, getD, take, replicate, length-replicate}
-use borrow.Author.Tests.{eq-eqb}
-use Rattle.forms.specs.Bytes.{Bytes}
+use native.Mathlib.Omega.{arith}
+use lib.Dec.{eqb, lit<}
+use lib.ListN.{length, getD, take, replicate, length-replicate, length-append}
+use borrow.Author.Tests.{eq-eqb, ne-eqb}
+use Rattle.forms.specs.Bytes.{Bytes, window}
+use Rattle.forms.specs.BytesLaws.{bytes-none}
 use Rattle.forms.specs.Chain.{step, runningAfter, ownEntries}
 use Rattle.forms.specs.declared.running.Running.{Running}
 use Rattle.forms.specs.Confirmation.{confirmationBytes}
-use Rattle.forms.specs.Entry.{entryOf}
-use Rattle.forms.specs.Limits.{nonceLen, recordsOffset, imageLen}
+use Rattle.forms.specs.Entry.{Entry, lenOf, entryBytes, logBytes, units}
+use Rattle.forms.specs.EntryLaws.{EntriesFit, entry-length}
+use Rattle.forms.specs.Limits.{nonceLen, recordsOffset, recordLen, imageLen}
+use Rattle.forms.specs.PartsLaws.{ConfirmationFits}
 use Rattle.forms.specs.Number.{be32}
 use Rattle.forms.specs.Record.{taken, currentPlace}
+use Rattle.forms.specs.Request.{requestAt, requestBytes, joined, names, nonceOf as nonceIn}
 use Rattle.forms.specs.Terms.{counterId, globalClock}
 use Rattle.forms.specs.declared.confirmation.Confirmation.{Confirmation}
-use Rattle.forms.specs.declared.event.Carried.{Carried}
+use Rattle.forms.specs.declared.request.Request.{Request}
 use Rattle.forms.specs.declared.terms.CounterId.{CounterId}
 use Rattle.forms.specs.declared.terms.GlobalClock.{GlobalClock}
-use Rattle.validity.specs.Proof.{shapeOf, proofLen}
+use Rattle.validity.specs.Proof.{fieldsLen}
 use Rattle.log_image.specs.FitLaws.{start-fits, append-record-fits}
+use Rattle.log_image.specs.ImageParts.{bytes-append}
 use Rattle.log_image.specs.ImageRoundTrip.{StateFits, decode-encode, encode-sound}
 use Rattle.log_image.specs.Sound.{holds, oldest, after, ending, soundState}
 use Rattle.log_image.specs.State.{State, recordsBytes, headerOf, decode, encode}
-use Rattle.host.specs.Host.{requestNonce, Settled, recordOf, runningOf, hasEntry, openRefusal, incrementRefusal, readRefusal, started, opened, updated, incremented, counted, proofOf, lastEntries, lastOf, settled, answered, startCall, openCall, incrementCall, readCall, proveCall, lastCall, proveOutput, lastOutput, proveRefusal, lastRefusal}
+use Rattle.host.specs.Host.{requestNonce, Settled, recordOf, runningOf, hasEntry, openRefusal, badBatch, batchRefusal, askedFrom, asked as askedBy, Batch, judgeNext, judgedBatch, readRefusal, started, opened, updated, raisedBy, incremented, counted, proofOf, lastEntries, lastOf, settled, answered, startCall, openCall, incrementCall, readCall, proveCall, lastCall, proveOutput, lastOutput, proveRefusal, lastRefusal}
 use Rattle.host.specs.CountLaws.{counted-sound, counted-fits}
 use Rattle.host.specs.DisplayLaws.{display-reads}
-use Rattle.host.specs.IncrementStores.{raised-fits, incremented-fits}
+use Rattle.host.specs.IncrementStores.{batch-fits}
 use Rattle.host.specs.OpenLaws.{opened-sound}
 use Rattle.host.specs.RaiseLaws.{started-sound, incremented-sound}
 use Rattle.host.specs.SettledLaws.{answered-done, settled-done}
 use Rattle.host.specs.declared.answer.Figures.{Figures}
 use Rattle.assurance.specs.HostList.{HostCall, Taken, readRunning, Runs}
 use Rattle.assurance.specs.HostProof.{host-claim}
+use Rattle.assurance.specs.ProgramLines.{request-bytes}
 
 -- ---- the list
 
@@ -51,16 +59,32 @@ pub nonce-bytes : (b : ℕ) → b < 256 → Bytes (nonceOf b)
 unfolding Bytes
 nonce-bytes b small = λ k. repeated-byte nonceLen b k small
 
+-- a request with the nonce of a byte
+abbrev pub request : ℕ → CounterId → ℕ → Request
+request b id before = record { nonce = nonceOf b; id = id; before = before }
+
+-- requests joined are bytes
+pub joined-bytes : (b : ℕ) (id : CounterId) (before : ℕ) (qs : List Request) → b < 256 → Bytes (joined qs) → Bytes (joined (request b id before ∷ qs))
+unfolding joined
+joined-bytes b id before qs small others = bytes-append (requestBytes (request b id before)) (joined qs) (request-bytes b id before small) others
+
+pub none-bytes : Bytes (joined [])
+unfolding joined
+none-bytes = bytes-none
+
 abbrev seven : CounterId
 seven = counterId 7
 
--- opened at the clock of the start
-abbrev signed : Confirmation
-signed = record { id = seven; value = 100; reading = globalClock 100 }
+abbrev nine : CounterId
+nine = counterId 9
 
--- room for a proof of one entry
+-- opened at the clock of the start
+abbrev signed : CounterId → Confirmation
+signed id = record { id = id; value = 100; reading = globalClock 100 }
+
+-- room for a proof of one entry with two requests
 abbrev room : List ℕ
-room = replicate {A = ℕ} 92 0
+room = replicate {A = ℕ} 144 0
 
 -- the buffer that start is handed
 pub blank : List ℕ
@@ -70,17 +94,30 @@ pub blank-long : length blank ≡ imageLen
 unfolding blank
 blank-long = length-replicate {A = ℕ} imageLen 0
 
+-- requests of 7 and of 9, and behind them a second one of 7
+abbrev shared : List Request
+shared = request 1 seven 100 ∷ request 2 nine 100 ∷ []
+
+abbrev batch : List Request
+batch = request 1 seven 100 ∷ request 2 nine 100 ∷ request 3 seven 101 ∷ []
+
+abbrev signatures : List ℕ
+signatures = 1 ∷ 1 ∷ 1 ∷ []
+
+batch-bytes : Bytes (joined batch)
+batch-bytes = joined-bytes 1 seven 100 _ (lit< tt) (joined-bytes 2 nine 100 _ (lit< tt) (joined-bytes 3 seven 101 [] (lit< tt) none-bytes))
+
+abbrev raising : HostCall
+raising = HostCall.increment (joined batch) signatures
+
 abbrev proving : HostCall
-proving = HostCall.prove (nonceOf 2) seven room
+proving = HostCall.prove (nonceOf 4) nine room
 
 abbrev lasting : HostCall
 lasting = HostCall.last seven (globalClock 101) room
 
-abbrev raising : HostCall
-raising = HostCall.increment (nonceOf 1) seven 100 1
-
 abbrev pub calls : List HostCall
-calls = HostCall.«open» signed 1 ∷ raising ∷ proving ∷ lasting ∷ []
+calls = HostCall.«open» (signed seven) 1 ∷ HostCall.«open» (signed nine) 1 ∷ raising ∷ proving ∷ lasting ∷ []
 
 -- ---- the states along it
 
@@ -88,76 +125,118 @@ abbrev begun : State
 begun = started (globalClock 100)
 
 abbrev holding : State
-holding = opened begun signed
+holding = opened begun (signed seven)
+
+abbrev holding-both : State
+holding-both = opened holding (signed nine)
 
 abbrev asked : State
-asked = incremented holding (nonceOf 1) seven 100
+asked = incremented holding-both shared
 
 abbrev shown : State
-shown = counted asked seven
+shown = counted asked nine
 
 -- none of the calls is refused
-open-passes : openRefusal begun signed 1 ≡ 0
+open-passes : openRefusal begun (signed seven) 1 ≡ 0
 unfolding holds oldest after ownEntries
 open-passes = refl
 
-raise-passes : incrementRefusal holding (nonceOf 1) seven 100 1 ≡ 0
-unfolding holds recordOf ending oldest after runningAfter step
-raise-passes = refl
+second-passes : openRefusal holding (signed nine) 1 ≡ 0
+unfolding holds oldest after ownEntries
+second-passes = refl
 
--- the lengths of the proofs: a header, a confirmation, for prove a certificate, and an entry
-abbrev proveLen : State → ℕ
-proveLen st = proofLen (shapeOf (proofOf st (nonceOf 2) seven))
+batch-good : badBatch (joined batch) signatures ≡ false
+unfolding joined requestBytes
+batch-good = refl
 
-abbrev lastLen : State → ℕ
-lastLen st = proofLen (shapeOf (lastOf st seven (globalClock 101)))
-
-prove-long : proveLen asked ≡ 92
-unfolding recordOf updated oldest after
-prove-long = refl
-
-last-long : lastLen shown ≡ 68
-unfolding recordOf updated oldest after
-last-long = refl
-
-prove-passes : proveRefusal asked (nonceOf 2) seven (proveLen asked) (length room) ≡ 0
-unfolding holds recordOf updated oldest after
-prove-passes = refl
-
-last-passes : lastRefusal shown seven (globalClock 101) (lastLen shown) (length room) ≡ 0
-unfolding holds recordOf updated oldest after hasEntry entryOf
-last-passes = refl
-
-read-passes : readRefusal asked seven ≡ 0
-unfolding holds updated
-read-passes = refl
+-- of the batch's requests the second one of 7 is: "a request whose box the batch already raised"
+pub batch-judged : judgedBatch holding-both (askedBy (joined batch) signatures) ≡ record { numbers = 0 ∷ 0 ∷ 29 ∷ []; passed = shared }
+unfolding judgedBatch judgeNext askedFrom requestAt joined requestBytes window holds recordOf ending oldest after runningAfter units names
+batch-judged = refl
 
 -- every state is sound and fits
+signed-fits : (id : ℕ) → id < 4294967296 → ConfirmationFits (signed (counterId id))
+signed-fits id small = record { id = small; value = lit< tt; reading = lit< tt }
+
 begun-fits : StateFits begun
 begun-fits = start-fits (globalClock 100) (lit< tt)
 
 holding-fits : StateFits holding
-holding-fits = append-record-fits begun begun-fits (taken signed) (record { held = record { id = lit< tt; value = lit< tt; reading = lit< tt }; current = lit< tt; proofs = lit< tt }) (lit< tt)
+holding-fits =
+    append-record-fits begun begun-fits (taken (signed seven)) (record { held = signed-fits 7 (lit< tt); current = lit< tt; proofs = lit< tt }) (lit< tt)
 
-asked-fits : StateFits asked
-asked-fits =
-    incremented-fits holding (nonceOf 1) seven 100
-    (raised-fits holding (Carried.Request seven 100) (nonceOf 1) holding-fits (nonce-bytes 1 (lit< tt)) refl (lit< tt, lit< tt) (lit< tt) (lit< tt))
-
-shown-fits : StateFits shown
-shown-fits = counted-fits asked seven asked-fits
+both-fits : StateFits holding-both
+both-fits =
+    append-record-fits holding holding-fits (taken (signed nine)) (record { held = signed-fits 9 (lit< tt); current = lit< tt; proofs = lit< tt }) (lit< tt)
 
 begun-sound : soundState begun ≡ true
 begun-sound = started-sound (globalClock 100)
 
 holding-sound : soundState holding ≡ true
-holding-sound = opened-sound begun signed 1 begun-sound open-passes
+holding-sound = opened-sound begun (signed seven) 1 begun-sound open-passes
+
+both-sound : soundState holding-both ≡ true
+both-sound = opened-sound holding (signed nine) 1 holding-sound second-passes
+
+-- two requests pass
+some-pass : 0 < length (judgedBatch holding-both (askedBy (joined batch) signatures) .passed)
+some-pass = subst (λ (b : Batch). 0 < length (b .passed)) (sym batch-judged) (lit< tt)
+
+asked-fits : StateFits asked
+asked-fits =
+    subst (λ (b : Batch). StateFits (incremented holding-both (b .passed))) batch-judged
+    (batch-fits holding-both (joined batch) signatures both-fits batch-bytes batch-good some-pass)
 
 asked-sound : soundState asked ≡ true
-asked-sound = incremented-sound holding (nonceOf 1) seven 100 1 holding-sound raise-passes
+asked-sound =
+    subst (λ (b : Batch). soundState (incremented holding-both (b .passed)) ≡ true) batch-judged
+    (incremented-sound holding-both (askedBy (joined batch) signatures) both-sound some-pass)
+
+shown-fits : StateFits shown
+shown-fits = counted-fits asked nine asked-fits
 
 shown-sound : soundState shown ≡ true
-shown-sound = counted-sound asked seven asked-sound
+shown-sound = counted-sound asked nine asked-sound
+
+-- ---- the proofs that are written
+
+-- how many bytes some entries have
+abbrev pub lensOf : List Entry → ℕ
+lensOf [] = 0
+lensOf (e ∷ es) = lenOf (length (e .requests)) + lensOf es
+
+pub log-length : (es : List Entry) → EntriesFit es → length (logBytes es) ≡ lensOf es
+unfolding logBytes
+log-length [] EntriesFit.none = refl
+log-length (e ∷ es) (EntriesFit.one-more fits more) =
+    length-append (entryBytes e) (logBytes es) ∙ ap₂ _+_ (entry-length e fits) (log-length es more)
+
+-- the lengths of the proofs: a header, a confirmation, for prove a certificate, and an entry of two requests
+abbrev proveLen : State → ℕ
+proveLen st = fieldsLen (proofOf st (nonceOf 4) nine)
+
+abbrev lastLen : State → ℕ
+lastLen st = fieldsLen (lastOf st seven (globalClock 101))
+
+prove-long : proveLen asked ≡ 144
+unfolding recordOf updated raisedBy oldest after
+prove-long = ap (λ (n : ℕ). 60 + n) (log-length (asked .log) (asked-fits .log))
+
+last-long : lastLen shown ≡ 120
+unfolding recordOf updated raisedBy oldest after
+last-long = ap (λ (n : ℕ). 36 + n) (log-length (shown .log) (shown-fits .log))
+
+prove-passes : proveRefusal asked (nonceOf 4) nine (proveLen asked) (length room) ≡ 0
+unfolding holds recordOf updated raisedBy oldest after
+prove-passes = ap (λ (n : ℕ). proveRefusal asked (nonceOf 4) nine n (length room)) prove-long
+
+last-passes : lastRefusal shown seven (globalClock 101) (lastLen shown) (length room) ≡ 0
+unfolding holds recordOf updated raisedBy oldest after hasEntry names
+last-passes = ap (λ (n : ℕ). lastRefusal shown seven (globalClock 101) n (length room)) last-long
+
+read-passes : readRefusal asked nine ≡ 0
+unfolding holds updated raisedBy
+read-passes = refl
 
 -- ---- the images along it
 
@@ -178,22 +257,39 @@ start-image =
     (record { figures = record { number = 14; value = 0 }; image = blank }) .image)
     (eq-eqb (length blank) imageLen blank-long)
 
--- after open
-holding-image : openCall (encode begun) signed 1 .image ≡ encode holding
+-- after the calls of open
+holding-image : openCall (encode begun) (signed seven) 1 .image ≡ encode holding
 holding-image =
     ap (λ (r : Settled). r .image)
-    (works begun begun-fits begun-sound (λ st. openRefusal st signed 1) (λ st. length (st .records) + 1) (λ st. opened st signed) open-passes)
+    (works begun begun-fits begun-sound (λ st. openRefusal st (signed seven) 1) (λ st. length (st .records) + 1) (λ st. opened st (signed seven)) open-passes)
 
--- after the increment
-asked-image : incrementCall (encode holding) (nonceOf 1) seven 100 1 .image ≡ encode asked
-asked-image =
+both-image : openCall (encode holding) (signed nine) 1 .image ≡ encode holding-both
+both-image =
     ap (λ (r : Settled). r .image)
-    (works holding holding-fits holding-sound (λ st. incrementRefusal st (nonceOf 1) seven 100 1) (λ st. st .clock .0 + 1)
-    (λ st. incremented st (nonceOf 1) seven 100) raise-passes)
+    (works holding holding-fits holding-sound (λ st. openRefusal st (signed nine) 1) (λ st. length (st .records) + 1) (λ st. opened st (signed nine)) second-passes)
+
+-- a batch of which some requests pass stores their increment
+pub batch-settled : (s requests verdicts : List ℕ) (qs : List Request) → judgedBatch (decode s) (askedBy requests verdicts) .passed ≡ qs → (length qs ≡ 0 → ⊥)
+    → incrementCall s requests verdicts ≡ settled s (batchRefusal requests verdicts) (decode s .clock .0 + 1) (incremented (decode s) qs)
+unfolding incrementCall
+batch-settled s requests verdicts qs passed some =
+    let number = batchRefusal requests verdicts in
+    let value = decode s .clock .0 + 1 in
+    ap (λ (l : List Request). cond {A = Settled} (eqb (length l) 0) (record { figures = answered s number 0; image = s }) (settled s number value (incremented (decode s) l))) passed
+    ∙ ap (λ (b : Bool). cond {A = Settled} b (record { figures = answered s number 0; image = s }) (settled s number value (incremented (decode s) qs))) (ne-eqb (length qs) 0 some)
+
+-- after the batch
+asked-image : incrementCall (encode holding-both) (joined batch) signatures .image ≡ encode asked
+asked-image =
+    let passed = ap (λ (st : State). judgedBatch st (askedBy (joined batch) signatures)) (decode-encode holding-both both-fits) ∙ batch-judged in
+    ap (λ (r : Settled). r .image)
+    (batch-settled (encode holding-both) (joined batch) signatures shared (ap (λ (b : Batch). b .passed) passed) (λ none. omega (arith, none))
+    ∙ works holding-both both-fits both-sound (λ st. batchRefusal (joined batch) signatures) (λ st. st .clock .0 + 1) (λ st. incremented st shared)
+    (ap (λ (b : Bool). cond {A = ℕ} b 16 0) batch-good))
 
 -- what prove answers, and the image after it
-prove-ends : proveCall (encode asked) (nonceOf 2) seven (length room) ≡ record { figures = record { number = 0; value = proveLen asked }; image = encode shown }
-prove-ends = works asked asked-fits asked-sound (λ st. proveRefusal st (nonceOf 2) seven (proveLen st) (length room)) proveLen (λ st. counted st seven) prove-passes
+prove-ends : proveCall (encode asked) (nonceOf 4) nine (length room) ≡ record { figures = record { number = 0; value = proveLen asked }; image = encode shown }
+prove-ends = works asked asked-fits asked-sound (λ st. proveRefusal st (nonceOf 4) nine (proveLen st) (length room)) proveLen (λ st. counted st nine) prove-passes
 
 -- what last answers
 last-ends : lastCall (encode shown) seven (globalClock 101) (length room)
@@ -201,40 +297,42 @@ last-ends : lastCall (encode shown) seven (globalClock 101) (length room)
 last-ends = works shown shown-fits shown-sound (λ st. lastRefusal st seven (globalClock 101) (lastLen st) (length room)) lastLen (λ st. counted st seven) last-passes
 
 -- what read shows where prove is called: 101, and one opening
-read-shows : readRunning (encode asked) seven ≡ record { value = 101; openings = 1 }
-unfolding holds recordOf updated ending oldest after runningAfter step entryOf
+read-shows : readRunning (encode asked) nine ≡ record { value = 101; openings = 1 }
+unfolding holds recordOf updated raisedBy ending oldest after runningAfter step names
 read-shows =
-    let figures : (part : Running → ℕ) → answered (encode asked) (readRefusal (decode (encode asked)) seven) (part (runningOf (decode (encode asked)) seven))
-    ≡ record { number = 0; value = part (runningOf asked seven) } = λ part.
-    ap (λ (st : State). answered (encode asked) (readRefusal st seven) (part (runningOf st seven))) (decode-encode asked asked-fits)
-    ∙ answered-done (encode asked) (readRefusal asked seven) (part (runningOf asked seven)) (encode-sound asked asked-fits asked-sound) read-passes in
+    let figures : (part : Running → ℕ) → answered (encode asked) (readRefusal (decode (encode asked)) nine) (part (runningOf (decode (encode asked)) nine))
+    ≡ record { number = 0; value = part (runningOf asked nine) } = λ part.
+    ap (λ (st : State). answered (encode asked) (readRefusal st nine) (part (runningOf st nine))) (decode-encode asked asked-fits)
+    ∙ answered-done (encode asked) (readRefusal asked nine) (part (runningOf asked nine)) (encode-sound asked asked-fits asked-sound) read-passes in
     ap₂ (λ (f g : Figures). record { value = f .value; openings = g .value }) (figures (λ r. r .value)) (figures (λ r. r .openings))
 
--- and so does the dock's display, which looks at the current value in the first record, by the law that it relies on
-pub display-shows : (be32 (encode asked) (currentPlace recordsOffset) ≡ 101) × (readCall (encode asked) seven .value ≡ 101)
-unfolding encode headerOf recordsBytes confirmationBytes updated
-display-shows = (refl, display-reads (encode asked) 0 (encode-sound asked asked-fits asked-sound) (lit< tt) .1)
+-- and so does the dock's display, which looks at the current value in the second record, by the law that it relies on
+pub display-shows : (be32 (encode asked) (currentPlace (recordsOffset + recordLen)) ≡ 101) × (readCall (encode asked) nine .value ≡ 101)
+unfolding encode headerOf recordsBytes confirmationBytes updated raisedBy
+display-shows = (refl, display-reads (encode asked) 1 (encode-sound asked asked-fits asked-sound) (lit< tt) .1)
 
 -- ---- what the claim says along it
 
 from-start : Runs (encode begun) calls
 from-start = subst (λ (s : List ℕ). Runs s calls) start-image (host-claim blank (globalClock 100) calls blank-long (lit< tt))
 
-from-open : Runs (encode holding) (raising ∷ proving ∷ lasting ∷ [])
+from-open : Runs (encode holding) (HostCall.«open» (signed nine) 1 ∷ raising ∷ proving ∷ lasting ∷ [])
 unfolding Runs
 from-open =
-    subst (λ (s : List ℕ). Runs s (raising ∷ proving ∷ lasting ∷ [])) holding-image
-    (from-start (record { id = lit< tt; value = lit< tt; reading = lit< tt }) .2)
+    subst (λ (s : List ℕ). Runs s (HostCall.«open» (signed nine) 1 ∷ raising ∷ proving ∷ lasting ∷ [])) holding-image (from-start (signed-fits 7 (lit< tt)) .2)
+
+from-second : Runs (encode holding-both) (raising ∷ proving ∷ lasting ∷ [])
+unfolding Runs
+from-second = subst (λ (s : List ℕ). Runs s (raising ∷ proving ∷ lasting ∷ [])) both-image (from-open (signed-fits 9 (lit< tt)) .2)
 
 from-raise : Runs (encode asked) (proving ∷ lasting ∷ [])
 unfolding Runs
-from-raise =
-    subst (λ (s : List ℕ). Runs s (proving ∷ lasting ∷ [])) asked-image (from-open (nonce-bytes 1 (lit< tt), lit< tt, lit< tt) .2)
+from-raise = subst (λ (s : List ℕ). Runs s (proving ∷ lasting ∷ [])) asked-image (from-second batch-bytes .2)
 
 from-prove : Runs (encode shown) (lasting ∷ [])
 unfolding Runs
 from-prove =
-    subst (λ (s : List ℕ). Runs s (lasting ∷ [])) (ap (λ (r : Settled). r .image) prove-ends) (from-raise (nonce-bytes 2 (lit< tt), lit< tt) .2)
+    subst (λ (s : List ℕ). Runs s (lasting ∷ [])) (ap (λ (r : Settled). r .image) prove-ends) (from-raise (nonce-bytes 4 (lit< tt), lit< tt) .2)
 
 -- value and openings that the desk shows of both proofs
 abbrev once : Running
@@ -243,19 +341,19 @@ once = record { value = 101; openings = 1 }
 -- what is claimed of prove's output: at a length, for the proof of a state, with value and openings
 abbrev ByProve : ℕ → State → Running → Type 0
 ByProve n st running =
-    Taken (take n (proveOutput (encode asked) (nonceOf 2) seven room)) (proofOf st (nonceOf 2) seven) seven (nonceOf 2) running (st .clock)
+    Taken (take n (proveOutput (encode asked) (nonceOf 4) nine room)) (proofOf st (nonceOf 4) nine) nine (nonceOf 4) running (st .clock)
 
--- the desk accepts the 92 bytes that prove wrote, and shows 101 and one opening at 101
-pub proof-taken : Taken (take 92 (proveOutput (encode asked) (nonceOf 2) seven room)) (proofOf asked (nonceOf 2) seven) seven (nonceOf 2) once (globalClock 101)
+-- the desk accepts the 144 bytes that prove wrote, and shows 101 and one opening at 101
+pub proof-taken : Taken (take 144 (proveOutput (encode asked) (nonceOf 4) nine room)) (proofOf asked (nonceOf 4) nine) nine (nonceOf 4) once (globalClock 101)
 unfolding Runs
 proof-taken =
     let number = ap (λ (r : Settled). r .figures .number) prove-ends in
     let value = ap (λ (r : Settled). r .figures .value) prove-ends ∙ prove-long in
-    let len : ℕ = proveCall (encode asked) (nonceOf 2) seven (length room) .figures .value in
-    let there = from-raise (nonce-bytes 2 (lit< tt), lit< tt) .0 number .1 in
+    let len : ℕ = proveCall (encode asked) (nonceOf 4) nine (length room) .figures .value in
+    let there = from-raise (nonce-bytes 4 (lit< tt), lit< tt) .0 number .1 in
     subst (λ (n : ℕ). ByProve n asked once) value
     (subst (ByProve len asked) read-shows
-    (subst (λ (st : State). ByProve len st (readRunning (encode asked) seven)) (decode-encode asked asked-fits) there))
+    (subst (λ (st : State). ByProve len st (readRunning (encode asked) nine)) (decode-encode asked asked-fits) there))
 
 -- the same of last's
 abbrev ByLast : ℕ → State → Type 0
@@ -264,9 +362,9 @@ ByLast n st =
     Taken (take n (lastOutput (encode shown) seven t room)) (lastOf st seven t) seven (requestNonce seven t (st .log))
     (record { value = 101; openings = ownEntries seven (lastEntries st seven t) }) t
 
--- and the 68 bytes that last wrote, under the nonce of the increment
-pub last-taken : Taken (take 68 (lastOutput (encode shown) seven (globalClock 101) room)) (lastOf shown seven (globalClock 101)) seven (nonceOf 1) once (globalClock 101)
-unfolding Runs requestNonce entryOf recordOf updated oldest after ownEntries
+-- and the 120 bytes that last wrote, under the nonce of 7's request
+pub last-taken : Taken (take 120 (lastOutput (encode shown) seven (globalClock 101) room)) (lastOf shown seven (globalClock 101)) seven (nonceOf 1) once (globalClock 101)
+unfolding Runs requestNonce names nonceIn recordOf updated raisedBy oldest after ownEntries
 last-taken =
     let number = ap (λ (r : Settled). r .figures .number) last-ends in
     let value = ap (λ (r : Settled). r .figures .value) last-ends ∙ last-long in

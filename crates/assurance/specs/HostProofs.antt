@@ -1,36 +1,39 @@
 -- The proofs that an honest host sets out are accepted: from a sound state, all verdicts yes, `prove`'s shows the counter's current value and
 -- openings at the clock, and `last`'s shows the t asked for and the number of the counter's entries up to it. Document 01, "The host"; the
 -- host's half of demand 3, at one state. Assumes nothing.
-use Prim.Native.Nat.{ℕ, zero, suc, _+_, _-_, _^_, _<_}
+use Prim.Native.Nat.{ℕ, zero, suc, _+_, _-_, _^_, _≤_, _<_}
 use mathlib.Core.Path.{_≡_, refl, sym, ap, ap₂, _∙_}
 use mathlib.Core.Bool.{Bool, true, false, cond, _&&_, _||_, true≢false, false≢true, and-false}
 use mathlib.Core.List.{List, [], _∷_, _++_}
 use native.Mathlib.Nat.{zero-add}
 use native.Mathlib.Omega.{arith}
 use lib.Dec.{eqb}
-use lib.ListN.{length, take, drop, length-take, length-drop, take-append-drop}
-use borrow.Author.Tests.{eqb-true, eq-eqb, ne-eqb}
+use lib.ListN.{length, take, drop, length-drop, take-append-drop}
+use borrow.Author.Tests.{eqb-true, ne-eqb}
 use Rattle.forms.specs.Chain.{fromValue, runningAfter, valueAfter, chains, ownEntries}
 use Rattle.forms.specs.ChainLaws.{chains-append, openings-counted, value-snoc, step-own}
+use Rattle.forms.specs.Entry.{Entry, units}
+use Rattle.forms.specs.EntryLaws.{EntryFits, EntriesFit, units-append}
 use Rattle.forms.specs.Limits.{nonceLen}
-use Rattle.forms.specs.PartsLaws.{EntryFits, EntriesFit, none, one-more}
+use Rattle.forms.specs.LogLaws.{Counted}
+use Rattle.forms.specs.Request.{RequestsFit, names, nonceOf}
 use Rattle.forms.specs.TestsLaws.{both}
 use Rattle.forms.specs.Terms.{globalClock, sameId}
-use Rattle.forms.specs.TermsLaws.{same-id}
 use Rattle.forms.specs.declared.confirmation.Confirmation.{Confirmation}
-use Rattle.forms.specs.declared.entry.Entry.{Entry}
+use Rattle.forms.specs.declared.request.Request.{Request}
 use Rattle.forms.specs.declared.terms.CounterId.{CounterId}
 use Rattle.forms.specs.declared.terms.GlobalClock.{GlobalClock}
 use Rattle.validity.specs.Proof.{encode}
-use Rattle.log_image.specs.FitLaws.{entries-fit-drop}
+use Rattle.log_image.specs.FitLaws.{entries-fit-drop, entries-fit-take, counted-drop, units-drop}
 use Rattle.log_image.specs.ImageRoundTrip.{StateFits}
 use Rattle.log_image.specs.State.{State}
-use Rattle.log_image.specs.Sound.{holds, consecutive, base, after, ending, soundState}
+use Rattle.log_image.specs.Sound.{holds, consecutive, base, proper, allProper, after, ending, soundState}
 use Rattle.log_image.specs.LookupLaws.{zero-unheld}
 use Rattle.desk.specs.declared.answer.Answer.{Answer}
 use Rattle.desk.specs.Desk.{allYes, verified}
 use Rattle.host.specs.HeldLaws.{Held, held-within, held-chains, entries-consecutive}
 use Rattle.host.specs.Host.{heldOf, entriesOf, runningOf, hasEntry, requestNonce, proofOf, lastEntries, lastOf}
+use Rattle.host.specs.LogEndsLaws.{proper-drop}
 use Rattle.host.specs.SoundParts.{SoundState, sound-parts}
 use Rattle.assurance.specs.AcceptLaws.{SetOut, read-accepted, increment-accepted}
 
@@ -45,11 +48,23 @@ consecutive-take g (e ∷ es) (suc k) steps =
     let parts = both (eqb (e .reading .0) (g + 1)) (consecutive (g + 1) es) steps in
     ap₂ _&&_ (parts .0) (consecutive-take (g + 1) es k (parts .1))
 
--- entries that fit their widths do so up to a reading
-pub fit-take : (es : List Entry) (k : ℕ) → EntriesFit es → EntriesFit (take k es)
-fit-take es zero fit = none
-fit-take [] (suc k) fit = none
-fit-take (e ∷ es) (suc k) (one-more fits more) = one-more fits (fit-take es k more)
+-- the first of proper entries are proper
+proper-take : (k : ℕ) (es : List Entry) → allProper es ≡ true → allProper (take k es) ≡ true
+unfolding allProper
+proper-take zero es are = refl
+proper-take (suc k) [] are = refl
+proper-take (suc k) (e ∷ es) are =
+    let parts = both (proper e) (allProper es) are in
+    ap₂ _&&_ (parts .0) (proper-take k es (parts .1))
+
+-- the first of entries that keep the limits do so too
+counted-take : (k : ℕ) (es : List Entry) → Counted es → Counted (take k es)
+counted-take zero es counted = Counted.none
+counted-take (suc k) [] counted = Counted.none
+counted-take (suc k) (e ∷ es) (Counted.one-more low counted) = Counted.one-more low (counted-take k es counted)
+
+units-take : (k : ℕ) (es : List Entry) → units (take k es) ≤ units es
+units-take k es = omega (arith, ap units (take-append-drop k es), units-append (take k es) (drop k es))
 
 -- the first of entries that chain do so too
 pub chains-take : (id : CounterId) (value : ℕ) (es : List Entry) (k : ℕ) → chains id value es ≡ true → chains id value (take k es) ≡ true
@@ -64,8 +79,10 @@ set-out-take id c es k set-out =
       own = set-out .own;
       low = set-out .low;
       fits = set-out .fits;
-      few = simp length-take (omega (arith, set-out .few));
-      entries-fit = fit-take es k (set-out .entries-fit);
+      few = omega (arith, units-take k es, set-out .few);
+      counted = counted-take k es (set-out .counted);
+      entries-fit = entries-fit-take k es (set-out .entries-fit);
+      all-proper = proper-take k es (set-out .all-proper);
       steps = consecutive-take (c .reading .0) es k (set-out .steps);
       chain = chains-take id (c .value) es k (set-out .chain);
     }
@@ -78,24 +95,24 @@ record Found (id : CounterId) (t : GlobalClock) (g : ℕ) (es : List Entry) : Ty
   last : Entry
   later : g < t .0
   cut : take (t .0 - g) es ≡ front ++ (last ∷ [])
-  own : last .id ≡ id
+  own : names id (last .requests) ≡ true
   reads : last .reading ≡ t
-  asked : last .nonce ≡ requestNonce id t es
+  asked : nonceOf id (last .requests) ≡ requestNonce id t es
   fits : EntryFits last
 
 -- it is there where the host finds it
 found : (id : CounterId) (t : GlobalClock) (g : ℕ) (es : List Entry) → EntriesFit es → consecutive g es ≡ true → hasEntry id t es ≡ true → Found id t g es
 unfolding hasEntry consecutive requestNonce
 found id t g [] fit steps has = absurd (false≢true has)
-found id t g (e ∷ es) (one-more fits more) steps has =
+found id t g (e ∷ es) (EntriesFit.one-more fits more) steps has =
     let parts = both (eqb (e .reading .0) (g + 1)) (consecutive (g + 1) es) steps in
-    go (eqb-true (e .reading .0) (g + 1) (parts .0)) (sameId (e .id) id && eqb (e .reading .0) (t .0)) refl has
+    go (eqb-true (e .reading .0) (g + 1) (parts .0)) (names id (e .requests) && eqb (e .reading .0) (t .0)) refl has
     (λ among. found id t (g + 1) es more (parts .1) among)
   where
-    go : e .reading .0 ≡ g + 1 → (here : Bool) → (sameId (e .id) id && eqb (e .reading .0) (t .0)) ≡ here → (here || hasEntry id t es) ≡ true
+    go : e .reading .0 ≡ g + 1 → (here : Bool) → (names id (e .requests) && eqb (e .reading .0) (t .0)) ≡ here → (here || hasEntry id t es) ≡ true
         → (hasEntry id t es ≡ true → Found id t (g + 1) es) → Found id t g (e ∷ es)
     go next true is has others =
-        let same = both (sameId (e .id) id) (eqb (e .reading .0) (t .0)) is in
+        let same = both (names id (e .requests)) (eqb (e .reading .0) (t .0)) is in
         let reads : e .reading .0 ≡ t .0 = eqb-true (e .reading .0) (t .0) (same .1) in
         let one : t .0 - g ≡ 1 = omega arith in
         record {
@@ -103,9 +120,9 @@ found id t g (e ∷ es) (one-more fits more) steps has =
           last = e;
           later = omega arith;
           cut = ap (λ (k : ℕ). take k (e ∷ es)) one;
-          own = same-id (e .id) id (same .0);
+          own = same .0;
           reads = ap globalClock reads;
-          asked = sym (ap (λ (b : Bool). cond b (e .nonce) (requestNonce id t es)) is);
+          asked = sym (ap (λ (b : Bool). cond b (nonceOf id (e .requests)) (requestNonce id t es)) is);
           fits = fits;
         }
     go next false is has others =
@@ -118,9 +135,20 @@ found id t g (e ∷ es) (one-more fits more) steps has =
           cut = ap (λ (k : ℕ). take k (e ∷ es)) one-more-in ∙ ap (λ (l : List Entry). e ∷ l) (there .cut);
           own = there .own;
           reads = there .reads;
-          asked = there .asked ∙ sym (ap (λ (b : Bool). cond b (e .nonce) (requestNonce id t es)) is);
+          asked = there .asked ∙ sym (ap (λ (b : Bool). cond b (nonceOf id (e .requests)) (requestNonce id t es)) is);
           fits = there .fits;
         }
+
+-- the nonce of a request that fits has its length
+nonce-long : (id : CounterId) (rs : List Request) → RequestsFit rs → names id rs ≡ true → length (nonceOf id rs) ≡ nonceLen
+unfolding names nonceOf
+nonce-long id [] RequestsFit.none named = absurd (false≢true named)
+nonce-long id (r ∷ rs) (RequestsFit.one-more fits more) named = go (sameId (r .id) id) named (λ among. nonce-long id rs more among)
+  where
+    go : (b : Bool) → (b || names id rs) ≡ true → (names id rs ≡ true → length (nonceOf id rs) ≡ nonceLen)
+        → length (cond b (r .nonce) (nonceOf id rs)) ≡ nonceLen
+    go true is others = fits .nonce
+    go false is others = others is
 
 -- no entry up to an earlier reading is the one with reading t
 request-later : (id : CounterId) (t : GlobalClock) (g : ℕ) (es : List Entry) (k : ℕ) → consecutive g es ≡ true → g + k < t .0
@@ -131,10 +159,10 @@ request-later id t g [] (suc k) steps less = refl
 request-later id t g (e ∷ es) (suc k) steps less =
     let parts = both (eqb (e .reading .0) (g + 1)) (consecutive (g + 1) es) steps in
     let next : e .reading .0 ≡ g + 1 = eqb-true (e .reading .0) (g + 1) (parts .0) in
-    let other : (sameId (e .id) id && eqb (e .reading .0) (t .0)) ≡ false =
-    ap (λ (b : Bool). sameId (e .id) id && b) (ne-eqb (e .reading .0) (t .0) (λ same. omega arith)) ∙ and-false (sameId (e .id) id) in
+    let other : (names id (e .requests) && eqb (e .reading .0) (t .0)) ≡ false =
+    ap (λ (b : Bool). names id (e .requests) && b) (ne-eqb (e .reading .0) (t .0) (λ same. omega arith)) ∙ and-false (names id (e .requests)) in
     request-later id t (g + 1) es k (parts .1) (omega arith)
-    ∙ sym (ap (λ (b : Bool). cond b (e .nonce) (requestNonce id t es)) other)
+    ∙ sym (ap (λ (b : Bool). cond b (nonceOf id (e .requests)) (requestNonce id t es)) other)
 
 -- ---- the proofs set out from a sound state
 
@@ -164,8 +192,10 @@ module _ (st : State) (id : CounterId) (sound : soundState st ≡ true) (fits : 
         own = mine .own;
         low = mine .low;
         fits = record { id = omega arith; value = omega (arith, mine .low, mine .past, fits .clock); reading = omega (arith, mine .past, fits .clock) };
-        few = simp length-drop (omega (arith, fits .entries));
+        few = omega (arith, units-drop (heldOf st id .reading .0 - base st) (st .log), fits .units);
+        counted = counted-drop (heldOf st id .reading .0 - base st) (st .log) (fits .counted);
         entries-fit = entries-fit-drop (heldOf st id .reading .0 - base st) (st .log) (fits .log);
+        all-proper = proper-drop (heldOf st id .reading .0 - base st) (st .log) (parts .proper);
         steps = entries-consecutive st id parts held;
         chain = held-chains st id parts held;
       }
@@ -190,16 +220,16 @@ module _ (st : State) (id : CounterId) (sound : soundState st ≡ true) (fits : 
       let f = found id t (heldOf st id .reading .0) (entriesOf st id) (set-out .entries-fit) (set-out .steps) has in
       let c = heldOf st id in
       let later : base st + (c .reading .0 - base st) < t .0 = omega (arith, mine .after-base, f .later) in
-      let asked : f .last .nonce ≡ requestNonce id t (st .log) =
+      let asked : nonceOf id (f .last .requests) ≡ requestNonce id t (st .log) =
       f .asked ∙ request-later id t (base st) (st .log) (c .reading .0 - base st) (parts .steps) later in
       let value : valueAfter id (c .value) (lastEntries st id t) ≡ t .0 =
       ap (valueAfter id (c .value)) (f .cut)
       ∙ value-snoc id (c .value) (f .front) (f .last)
-      ∙ step-own id (valueAfter id (c .value) (f .front)) (f .last) (eq-eqb (f .last .id .0) (id .0) (ap (λ (i : CounterId). i .0) (f .own)))
+      ∙ step-own id (valueAfter id (c .value) (f .front)) (f .last) (f .own)
       ∙ ap (λ (g : GlobalClock). g .0) (f .reads) in
       increment-accepted id (requestNonce id t (st .log)) c (lastEntries st id t)
       (set-out-take id c (entriesOf st id) (t .0 - c .reading .0) set-out)
-      (record { counter = counter-some; long = ap length (sym asked) ∙ f .fits .nonce })
+      (record { counter = counter-some; long = ap length (sym asked) ∙ nonce-long id (f .last .requests) (f .fits .requests) (f .own) })
       (f .front) (f .last) (f .cut) (f .own) asked
       ∙ ap₂ Answer.Accepted
       (ap₂ (λ (v n : ℕ). record { value = v; openings = n }) value (openings-counted id (fromValue (c .value)) (lastEntries st id t) ∙ zero-add (ownEntries id (lastEntries st id t))))

@@ -10,16 +10,18 @@ use lib.ListN.{length}
 use borrow.Author.Tests.{eqb-true, eqb-false, eq-eqb, not-true}
 use Rattle.forms.specs.Bytes.{Bytes}
 use Rattle.forms.specs.Checks.{Row, firstOf}
-use Rattle.forms.specs.Limits.{largest, imageLen, maxEntries}
+use Rattle.forms.specs.Entry.{units}
+use Rattle.forms.specs.Limits.{largest, imageLen, maxUnits}
 use Rattle.forms.specs.PartsLaws.{ConfirmationFits}
 use Rattle.forms.specs.TestsLaws.{both}
 use Rattle.forms.specs.Record.{taken}
 use Rattle.forms.specs.Terms.{globalClock}
+use Rattle.forms.specs.Request.{RequestsFit}
 use Rattle.forms.specs.declared.confirmation.Confirmation.{Confirmation}
-use Rattle.forms.specs.declared.event.Carried.{Carried}
+use Rattle.forms.specs.declared.request.Request.{Request}
 use Rattle.forms.specs.declared.terms.CounterId.{CounterId}
 use Rattle.forms.specs.declared.terms.GlobalClock.{GlobalClock}
-use Rattle.validity.specs.Proof.{shapeOf, proofLen}
+use Rattle.validity.specs.Proof.{fieldsLen}
 use Rattle.log_image.specs.FitLaws.{start-fits, store-clock-fits, append-record-fits, drop-entries-fits}
 use Rattle.log_image.specs.ImageRoundTrip.{StateFits, length-encode, encode-bytes, encode-sound, decode-fits, sound-decode, sound-laid-out}
 use Rattle.log_image.specs.Sound.{base, soundState, sound}
@@ -30,11 +32,11 @@ use Rattle.host.specs.ConfirmLaws.{confirmed-sound}
 use Rattle.host.specs.ConfirmStores.{replacedState, replaced-fits}
 use Rattle.host.specs.CountLaws.{counted-sound, counted-fits}
 use Rattle.host.specs.EffectLaws.{clock-runs, entry-room, record-room}
-use Rattle.host.specs.Host.{Settled, openRefusal, tickRefusal, incrementRefusal, confirmRefusal, closeRefusal, openRows, tickRows, incrementRows, readRows, proveRows, lastRows, confirmRows, closeRows, started, opened, raised, incremented, noneHeld, advanced, ticked, counted, confirmedState, withRecords, without, closedState, settled, startCall, readRefusal, currentOf, proofOf, lastOf, proveRefusal, lastRefusal, readCall}
-use Rattle.host.specs.IncrementStores.{raised-fits, incremented-fits}
+use Rattle.host.specs.Host.{Settled, openRefusal, tickRefusal, badBatch, batchRefusal, asked, judgedBatch, confirmRefusal, closeRefusal, openRows, tickRows, readRows, proveRows, lastRows, confirmRows, closeRows, started, opened, raised, incremented, noneHeld, advanced, ticked, counted, confirmedState, withRecords, without, closedState, answered, settled, startCall, incrementCall, readRefusal, currentOf, proofOf, lastOf, proveRefusal, lastRefusal, readCall}
+use Rattle.host.specs.IncrementStores.{raised-fits, batch-fits}
 use Rattle.host.specs.OpenLaws.{opened-sound}
 use Rattle.host.specs.RaiseLaws.{started-sound, incremented-sound, ticked-sound}
-use Rattle.host.specs.RefusalLaws.{open-passed, tick-passed, increment-passed, close-passed}
+use Rattle.host.specs.RefusalLaws.{open-passed, tick-passed, close-passed}
 use Rattle.host.specs.SettledLaws.{settled-refused, settled-done}
 use Rattle.assurance.specs.HostList.{HostCall, settledBy, Widths}
 
@@ -80,12 +82,12 @@ settled-steps s number value next kept other steady = go (eqb number 0) refl
 -- ---- no refusal is 14
 
 -- the rows of a table give other numbers
-abbrev apart : List (Row ℕ) → Bool
+abbrev pub apart : List (Row ℕ) → Bool
 apart [] = true
 apart (row ∷ rows) = not (eqb (row .answer) 14) && apart rows
 
 -- so that the first whose test holds does too, and 0 where there is none
-rows-other : (rows : List (Row ℕ)) → apart rows ≡ true → firstOf rows 0 ≡ 14 → ⊥
+pub rows-other : (rows : List (Row ℕ)) → apart rows ≡ true → firstOf rows 0 ≡ 14 → ⊥
 rows-other [] others e = omega arith
 rows-other (row ∷ rows) others e =
     let parts = both (not (eqb (row .answer) 14)) (apart rows) others in
@@ -120,28 +122,33 @@ module _ (s : List ℕ) (kept : Kept s) where
       let p = open-passed (decode s) c verdict none in
       (opened-sound (decode s) c verdict state-sound none, append-record-fits (decode s) state-fits (taken c) (record { held = fits; current = fits .value; proofs = lit< tt }) (record-room s (kept .bytes) (kept .is-sound) (p .room)))
 
-  pub tick-steady : (nonce : List ℕ) → Bytes nonce → tickRefusal (decode s) nonce ≡ 0 → Steady (ticked (decode s) nonce)
-  tick-steady nonce bytes none = (ticked-sound (decode s) nonce state-sound, go (noneHeld (decode s)))
+  pub tick-steady : (nonce : List ℕ) → tickRefusal (decode s) nonce ≡ 0 → Steady (ticked (decode s))
+  tick-steady nonce none = (ticked-sound (decode s) state-sound, go (noneHeld (decode s)))
     where
       running : decode s .clock .0 < largest
       running = clock-runs s (kept .bytes) (kept .is-sound) (tick-passed (decode s) nonce none .running)
 
-      room : length (decode s .log) < maxEntries
+      room : units (decode s .log) < maxUnits
       room = entry-room s (kept .bytes) (kept .is-sound) (tick-passed (decode s) nonce none .room)
 
-      go : (b : Bool) → StateFits (cond b (advanced (decode s)) (raised (decode s) Carried.Tick nonce))
+      go : (b : Bool) → StateFits (cond b (advanced (decode s)) (raised (decode s) []))
       go true = store-clock-fits (decode s) state-fits (globalClock (decode s .clock .0 + 1)) (omega (arith, running))
-      go false = raised-fits (decode s) Carried.Tick nonce state-fits bytes (tick-passed (decode s) nonce none .long) tt running room
+      go false = raised-fits (decode s) [] state-fits RequestsFit.none (omega arith) running (omega (arith, room))
 
-  pub increment-steady : (nonce : List ℕ) (id : CounterId) (before verdict : ℕ) → Bytes nonce → id .0 < 2 ^ 32 → before < 2 ^ 32
-      → incrementRefusal (decode s) nonce id before verdict ≡ 0 → Steady (incremented (decode s) nonce id before)
-  increment-steady nonce id before verdict bytes id-fits before-fits none =
-      let p = increment-passed (decode s) nonce id before verdict none in (
-        incremented-sound (decode s) nonce id before verdict state-sound none,
-        incremented-fits (decode s) nonce id before
-            (raised-fits (decode s) (Carried.Request id before) nonce state-fits bytes (p .long) (id-fits, before-fits)
-            (clock-runs s (kept .bytes) (kept .is-sound) (p .running)) (entry-room s (kept .bytes) (kept .is-sound) (p .room))),
-      )
+  -- a batch of which some request passes
+  pub batch-steady : (requests verdicts : List ℕ) → Bytes requests → (length (judgedBatch (decode s) (asked requests verdicts) .passed) ≡ 0 → ⊥)
+      → batchRefusal requests verdicts ≡ 0 → Steady (incremented (decode s) (judgedBatch (decode s) (asked requests verdicts) .passed))
+  batch-steady requests verdicts bytes none-not none = (
+    incremented-sound (decode s) (asked requests verdicts) state-sound some,
+    batch-fits (decode s) requests verdicts state-fits bytes (whole (badBatch requests verdicts) none) some,
+  )
+    where
+      some : 0 < length (judgedBatch (decode s) (asked requests verdicts) .passed)
+      some = omega (arith, none-not)
+
+      whole : (b : Bool) → cond {A = ℕ} b 16 0 ≡ 0 → b ≡ false
+      whole true e = absurd (omega arith)
+      whole false e = refl
 
   pub counted-steady : (id : CounterId) → Steady (counted (decode s) id)
   counted-steady id = (counted-sound (decode s) id state-sound, counted-fits (decode s) id state-fits)
@@ -165,6 +172,30 @@ module _ (s : List ℕ) (kept : Kept s) where
       settled-steps s (readRefusal (decode s) id) (currentOf (decode s) id) (decode s) kept (rows-other (readRows (decode s) id) refl)
       (λ none. kept-steady s kept) .found-sound
 
+  -- a batch of which no request passes answers as a call that stores nothing
+  increment-steps : (requests verdicts : List ℕ) → Bytes requests → Steps (incrementCall s requests verdicts)
+  unfolding incrementCall settled
+  increment-steps requests verdicts bytes = go (eqb (length qs) 0) refl
+    where
+      qs : List Request
+      qs = judgedBatch (decode s) (asked requests verdicts) .passed
+
+      number : ℕ
+      number = batchRefusal requests verdicts
+
+      -- as a whole it is refused by 16 alone
+      other : (b : Bool) → cond {A = ℕ} b 16 0 ≡ 14 → ⊥
+      other true e = omega arith
+      other false e = omega arith
+
+      go : (b : Bool) → eqb (length qs) 0 ≡ b
+          → Steps (cond {A = Settled} b (record { figures = answered s number 0; image = s }) (settled s number (decode s .clock .0 + 1) (incremented (decode s) qs)))
+      go true is =
+          record { found-sound = settled-steps s number 0 (decode s) kept (other (badBatch requests verdicts)) (λ none. kept-steady s kept) .found-sound; kept = kept }
+      go false is =
+          settled-steps s number (decode s .clock .0 + 1) (incremented (decode s) qs) kept (other (badBatch requests verdicts))
+          (batch-steady requests verdicts bytes (eqb-false (length qs) 0 is))
+
   -- ---- every call
 
   pub call-steps : (c : HostCall) → Widths c → Steps (settledBy s c)
@@ -176,19 +207,16 @@ module _ (s : List ℕ) (kept : Kept s) where
   call-steps (HostCall.tick nonce) widths =
       settled-steps s (tickRefusal (decode s) nonce) _ _ kept
       (rows-other (tickRows (decode s) nonce) refl)
-      (tick-steady nonce widths)
-  call-steps (HostCall.increment nonce id before verdict) widths =
-      settled-steps s (incrementRefusal (decode s) nonce id before verdict) _ _ kept
-      (rows-other (incrementRows (decode s) nonce id before verdict) refl)
-      (increment-steady nonce id before verdict (widths .0) (widths .1) (widths .2))
+      (tick-steady nonce)
+  call-steps (HostCall.increment requests verdicts) widths = increment-steps requests verdicts widths
   call-steps (HostCall.read id) widths = record { found-sound = read-other id; kept = kept }
   call-steps (HostCall.prove nonce id output) widths =
       settled-steps s (proveRefusal (decode s) nonce id _ (length output)) _ _ kept
-      (rows-other (proveRows (decode s) nonce id (proofLen (shapeOf (proofOf (decode s) nonce id))) (length output)) refl)
+      (rows-other (proveRows (decode s) nonce id (fieldsLen (proofOf (decode s) nonce id)) (length output)) refl)
       (λ none. counted-steady id)
   call-steps (HostCall.last id t output) widths =
       settled-steps s (lastRefusal (decode s) id t _ (length output)) _ _ kept
-      (rows-other (lastRows (decode s) id t (proofLen (shapeOf (lastOf (decode s) id t))) (length output)) refl)
+      (rows-other (lastRows (decode s) id t (fieldsLen (lastOf (decode s) id t)) (length output)) refl)
       (λ none. counted-steady id)
   call-steps (HostCall.confirm c verdict) widths =
       settled-steps s (confirmRefusal (decode s) c verdict) _ _ kept

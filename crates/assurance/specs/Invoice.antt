@@ -26,7 +26,7 @@ countedBy id n (HostCall.last own t output) = cond (sameId own id) (n + 1) n
 countedBy id n (HostCall.«open» c verdict) = cond (sameId (c .id) id) 0 n
 countedBy id n (HostCall.start clock) = n
 countedBy id n (HostCall.tick nonce) = n
-countedBy id n (HostCall.increment nonce own before verdict) = n
+countedBy id n (HostCall.increment requests verdicts) = n
 countedBy id n (HostCall.read own) = n
 countedBy id n (HostCall.confirm c verdict) = n
 countedBy id n (HostCall.close c verdict) = n
@@ -35,14 +35,14 @@ countedBy id n (HostCall.close c verdict) = n
 abbrev pub countedAfter : CounterId → ℕ → List ℕ → HostCall → ℕ
 countedAfter id n s c = cond (eqb (settledBy s c .figures .number) 0) (countedBy id n c) n
 
--- a call is for its own counter; start, after which none is held, is for every one, and tick for none
+-- a call is for its own counter; start, after which none is held, is for every one; tick and increment, which touch no figure, are for none
 abbrev pub isFor : HostCall → CounterId → Bool
 isFor (HostCall.prove nonce own output) id = sameId own id
 isFor (HostCall.last own t output) id = sameId own id
 isFor (HostCall.«open» c verdict) id = sameId (c .id) id
 isFor (HostCall.start clock) id = true
 isFor (HostCall.tick nonce) id = false
-isFor (HostCall.increment nonce own before verdict) id = sameId own id
+isFor (HostCall.increment requests verdicts) id = false
 isFor (HostCall.read own) id = sameId own id
 isFor (HostCall.confirm c verdict) id = sameId (c .id) id
 isFor (HostCall.close c verdict) id = sameId (c .id) id
@@ -79,7 +79,7 @@ Invoiced id n s (HostCall.last own t output) = Unit
 Invoiced id n s (HostCall.«open» c verdict) = Unit
 Invoiced id n s (HostCall.start clock) = Unit
 Invoiced id n s (HostCall.tick nonce) = Unit
-Invoiced id n s (HostCall.increment nonce own before verdict) = Unit
+Invoiced id n s (HostCall.increment requests verdicts) = Unit
 Invoiced id n s (HostCall.read own) = Unit
 Invoiced id n s (HostCall.confirm c verdict) = Unit
 

@@ -8,12 +8,13 @@ use native.Mathlib.Omega.{arith}
 use lib.Dec.{eqb}
 use lib.ListN.{length}
 use borrow.Author.Tests.{eqb-true, eqb-false, eq-eqb}
+use Rattle.forms.specs.Bytes.{Bytes}
 use Rattle.forms.specs.Limits.{largest, imageLen}
 use Rattle.forms.specs.Record.{taken}
 use Rattle.forms.specs.Terms.{globalClock, sameId}
 use Rattle.forms.specs.TermsLaws.{same-id}
 use Rattle.forms.specs.declared.confirmation.Confirmation.{Confirmation}
-use Rattle.forms.specs.declared.event.Carried.{Carried}
+use Rattle.forms.specs.declared.request.Request.{Request}
 use Rattle.forms.specs.declared.terms.CounterId.{CounterId}
 use Rattle.forms.specs.declared.terms.GlobalClock.{GlobalClock}
 use Rattle.log_image.specs.FitLaws.{start-fits}
@@ -22,13 +23,14 @@ use Rattle.log_image.specs.Sound.{holds, distinct}
 use Rattle.log_image.specs.State.{Record, State, decode, encode}
 use Rattle.host.specs.DoneLaws.{settled-passed, value-given}
 use Rattle.host.specs.EachRecordLaws.{Keeps, held-keeps, raise-keeps, confirmation-keeps, holds-updated, holds-snoc}
-use Rattle.host.specs.Host.{Settled, recordOf, updated, proved, raisedTo, confirmedBy, started, opened, raised, advanced, ticked, noneHeld, counted, closedState, settled, startCall, readCall, openRefusal, tickRefusal, incrementRefusal, proveRefusal, lastRefusal, confirmRefusal, closeRefusal}
+use Rattle.host.specs.Host.{Settled, recordOf, updated, proved, raisedTo, raisedBy, confirmedBy, started, opened, raised, incremented, advanced, ticked, noneHeld, counted, closedState, answered, settled, startCall, incrementCall, readCall, openRefusal, tickRefusal, batchRefusal, asked, judgedBatch, proveRefusal, lastRefusal, confirmRefusal, closeRefusal}
 use Rattle.host.specs.RecordOfLaws.{record-updated, record-before, record-behind, holds-taken, holds-left, record-left}
 use Rattle.host.specs.RefusalLaws.{open-passed, close-passed}
 use Rattle.host.specs.SettledLaws.{settled-refused, settled-done}
 use Rattle.host.specs.SoundParts.{sound-parts}
+use Rattle.host.specs.declared.answer.Figures.{Figures}
 use Rattle.assurance.specs.HostList.{HostCall, settledBy, Widths}
-use Rattle.assurance.specs.HostSteps.{Kept, Steady, start-steps, open-steady, tick-steady, increment-steady, counted-steady, confirm-steady, close-steady, call-steps}
+use Rattle.assurance.specs.HostSteps.{Kept, Steady, start-steps, open-steady, tick-steady, batch-steady, counted-steady, confirm-steady, close-steady, call-steps}
 use Rattle.assurance.specs.Invoice.{countedBy, countedAfter, isFor, Invoiced, Counts, InvoiceClaim}
 
 -- ---- a figure from one state to the next
@@ -52,6 +54,15 @@ updated-same id own change keeps figure rs = (holds-updated own change keeps rs 
     go : (b : Bool) → cond b (change (recordOf rs id)) (recordOf rs id) .proofs ≡ recordOf rs id .proofs
     go true = figure (recordOf rs id)
     go false = refl
+
+-- the records of the counters that some requests raise
+raised-same : (id : CounterId) (reading : GlobalClock) (qs : List Request) (rs : List Record) → Same id rs (raisedBy qs reading rs)
+unfolding raisedBy
+raised-same id reading [] rs = (refl, λ held. refl)
+raised-same id reading (q ∷ qs) rs =
+    let first = updated-same id (q .id) (raisedTo reading) (held-keeps (q .id) (raisedTo reading) (raise-keeps reading)) (λ r. refl) rs in
+    let others = raised-same id reading qs (updated rs (q .id) (raisedTo reading)) in
+    (others .0 ∙ first .0, λ held. others .1 (first .0 ∙ held) ∙ first .1 held)
 
 -- ---- the states of a call that is not refused
 
@@ -105,10 +116,10 @@ module _ (id : CounterId) (n : ℕ) where
       others e = (holds-updated own proved keeps rs id, λ held. ap (λ (r : Record). r .proofs) (after false e held))
 
   -- the clock alone, or an entry too
-  tick-same : (st : State) (nonce : List ℕ) → Same id (st .records) (ticked st nonce .records)
-  tick-same st nonce = go (noneHeld st)
+  tick-same : (st : State) → Same id (st .records) (ticked st .records)
+  tick-same st = go (noneHeld st)
     where
-      go : (b : Bool) → Same id (st .records) (cond b (advanced st) (raised st Carried.Tick nonce) .records)
+      go : (b : Bool) → Same id (st .records) (cond b (advanced st) (raised st []) .records)
       go true = (refl, λ held. refl)
       go false = (refl, λ held. refl)
 
@@ -168,13 +179,32 @@ module _ (id : CounterId) (n : ℕ) (s : List ℕ) (kept : Kept s) (figure : Fig
   settled-stays own number value next steady same =
       settled-after own n number value next steady (λ none. stays id n own (decode s .records) (next .records) (same none) figure)
 
-  -- read leaves the image
-  read-after : (own : Bool) (number value : ℕ) → After own n (record { figures = record { number = number; value = value }; image = s })
-  read-after own number value = (go (eqb number 0), λ other. (refl, λ held. refl))
+  -- a call that leaves the image: read, and a batch of which no request passes
+  left-after : (own : Bool) (f : Figures) → After own n (record { figures = f; image = s })
+  left-after own f = (go (eqb (f .number) 0), λ other. (refl, λ held. refl))
     where
       go : (b : Bool) → Figure id (cond b n n) (decode s .records)
       go true = figure
       go false = figure
+
+  -- a batch
+  increment-after : (requests verdicts : List ℕ) → Bytes requests → After false n (incrementCall s requests verdicts)
+  unfolding incrementCall
+  increment-after requests verdicts bytes = go (eqb (length qs) 0) refl
+    where
+      qs : List Request
+      qs = judgedBatch (decode s) (asked requests verdicts) .passed
+
+      number : ℕ
+      number = batchRefusal requests verdicts
+
+      go : (b : Bool) → eqb (length qs) 0 ≡ b
+          → After false n (cond {A = Settled} b (record { figures = answered s number 0; image = s }) (settled s number (decode s .clock .0 + 1) (incremented (decode s) qs)))
+      go true is = left-after false (answered s number 0)
+      go false is =
+          settled-stays false number (decode s .clock .0 + 1) (incremented (decode s) qs)
+          (batch-steady s kept requests verdicts bytes (eqb-false (length qs) 0 is))
+          (λ none. raised-same id (globalClock (decode s .clock .0 + 1)) qs (decode s .records))
 
   call-after : (c : HostCall) → Widths c → After (isFor c id) (countedBy id n c) (settledBy s c)
   call-after (HostCall.start clock) widths = (none-figure id _ _ (start-records s clock (kept .long) widths), λ other. absurd (true≢false other))
@@ -182,13 +212,9 @@ module _ (id : CounterId) (n : ℕ) (s : List ℕ) (kept : Kept s) (figure : Fig
       settled-after _ _ (openRefusal (decode s) c verdict) _ _ (open-steady s kept c verdict widths)
       (λ none. open-told id n (decode s) c (open-passed (decode s) c verdict none .unheld) figure)
   call-after (HostCall.tick nonce) widths =
-      settled-stays _ (tickRefusal (decode s) nonce) _ _ (tick-steady s kept nonce widths) (λ none. tick-same id n (decode s) nonce)
-  call-after (HostCall.increment nonce own before verdict) widths =
-      settled-stays _ (incrementRefusal (decode s) nonce own before verdict) _ _
-      (increment-steady s kept nonce own before verdict (widths .0) (widths .1) (widths .2))
-      (λ none. let to = globalClock (decode s .clock .0 + 1) in
-      updated-same id own (raisedTo to) (held-keeps own (raisedTo to) (raise-keeps to)) (λ r. refl) (decode s .records))
-  call-after (HostCall.read own) widths = read-after (sameId own id) (readCall s own .number) (readCall s own .value)
+      settled-stays _ (tickRefusal (decode s) nonce) _ _ (tick-steady s kept nonce) (λ none. tick-same id n (decode s))
+  call-after (HostCall.increment requests verdicts) widths = increment-after requests verdicts widths
+  call-after (HostCall.read own) widths = left-after (sameId own id) (record { number = readCall s own .number; value = readCall s own .value })
   call-after (HostCall.prove nonce own output) widths =
       settled-after _ _ (proveRefusal (decode s) nonce own _ (length output)) _ _ (λ none. counted-steady s kept own) (λ none. counted-told id n (decode s) own figure)
   call-after (HostCall.last own t output) widths =
@@ -220,7 +246,7 @@ module _ (id : CounterId) (n : ℕ) (s : List ℕ) (kept : Kept s) (figure : Fig
   call-invoiced (HostCall.«open» c verdict) = tt
   call-invoiced (HostCall.start clock) = tt
   call-invoiced (HostCall.tick nonce) = tt
-  call-invoiced (HostCall.increment nonce own before verdict) = tt
+  call-invoiced (HostCall.increment requests verdicts) = tt
   call-invoiced (HostCall.read own) = tt
   call-invoiced (HostCall.confirm c verdict) = tt
 

@@ -13,8 +13,8 @@ use borrow.Author.Tests.{eqb-false}
 use Rattle.forms.specs.Terms.{sameId}
 use Rattle.forms.specs.TermsLaws.{same-id}
 use Rattle.forms.specs.declared.confirmation.Confirmation.{Confirmation}
-use Rattle.forms.specs.declared.event.ModuleEvent.{ModuleEvent}
 use Rattle.forms.specs.declared.terms.CounterId.{CounterId}
+use Rattle.history.specs.History.{HistoryEvent}
 use Rattle.assurance.specs.DeskList.{Item, event, confirmed, call, At, history, Unopened, Opening}
 
 -- ---- the history
@@ -23,7 +23,7 @@ use Rattle.assurance.specs.DeskList.{Item, event, confirmed, call, At, h
 pub history-append : (l m : List Item) → history (l ++ m) ≡ history l ++ history m
 unfolding history
 history-append [] m = refl
-history-append (event e ∷ l) m = ap (λ (es : List ModuleEvent). e ∷ es) (history-append l m)
+history-append (event e ∷ l) m = ap (λ (es : List HistoryEvent). e ∷ es) (history-append l m)
 history-append (confirmed k ∷ l) m = history-append l m
 history-append (call c ∷ l) m = history-append l m
 

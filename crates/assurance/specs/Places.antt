@@ -1,24 +1,29 @@
 -- A place in a worked list of calls: the image there, and the state that it says. Each call on it is worked out on the state alone. Assumes
 -- nothing.
-use Prim.Native.Nat.{ℕ, _+_, _<_}
+use Prim.Native.Nat.{ℕ, _+_, _-_, _<_}
 use mathlib.Core.Path.{_≡_, sym, ap, subst, _∙_}
 use mathlib.Core.List.{List}
 use lib.Dec.{lit<}
 use lib.ListN.{length}
+use Rattle.forms.specs.Bytes.{Bytes}
+use Rattle.forms.specs.EntryLaws.{EntriesFit}
 use Rattle.forms.specs.PartsLaws.{ConfirmationFits}
 use Rattle.forms.specs.Terms.{counterId, globalClock}
 use Rattle.forms.specs.declared.confirmation.Confirmation.{Confirmation}
+use Rattle.forms.specs.declared.request.Request.{Request}
 use Rattle.forms.specs.declared.terms.CounterId.{CounterId}
-use Rattle.validity.specs.Proof.{shapeOf, proofLen}
-use Rattle.log_image.specs.FitLaws.{start-fits}
-use Rattle.log_image.specs.ImageRoundTrip.{decode-encode}
+use Rattle.validity.specs.Proof.{fieldsLen, logOffset}
+use Rattle.validity.specs.declared.proof.Kind.{Kind}
+use Rattle.log_image.specs.FitLaws.{start-fits, entries-fit-drop}
+use Rattle.log_image.specs.ImageRoundTrip.{decode-encode, decode-fits, sound-laid-out}
+use Rattle.log_image.specs.Sound.{base, after}
 use Rattle.log_image.specs.State.{State, decode}
-use Rattle.host.specs.Host.{Settled, recordOf, openRefusal, proveRefusal, closeRefusal, started, opened, counted, closedState, proofOf, settled, startCall}
+use Rattle.host.specs.Host.{Settled, recordOf, heldOf, entriesOf, openRefusal, batchRefusal, asked, judgedBatch, proveRefusal, closeRefusal, started, opened, incremented, counted, closedState, proofOf, settled, startCall}
 use Rattle.host.specs.RaiseLaws.{started-sound}
 use Rattle.host.specs.SettledLaws.{settled-done}
 use Rattle.assurance.specs.HostList.{HostCall, settledBy}
-use Rattle.assurance.specs.HostListWitness.{nonceOf, blank, start-image}
-use Rattle.assurance.specs.HostSteps.{Kept, Steady, steady-kept, open-steady, counted-steady, close-steady}
+use Rattle.assurance.specs.HostListWitness.{nonceOf, blank, start-image, lensOf, log-length, batch-settled}
+use Rattle.assurance.specs.HostSteps.{Kept, Steady, steady-kept, open-steady, batch-steady, counted-steady, close-steady}
 
 -- an image that every call may be handed, and the state that it says
 pub record Stands (s : List ℕ) (st : State) : Type 0 where
@@ -72,15 +77,36 @@ opens {s} {st} id t fits here none becomes =
     done (λ x. openRefusal x (signed id t) 1) (λ x. length (x .records) + 1) (λ x. opened x (signed id t)) here none
     (open-steady s (here .kept) (signed id t) 1 fits (ap (λ (x : State). openRefusal x (signed id t) 1) (here .says) ∙ none)) becomes
 
-abbrev pub proveLen : ℕ → CounterId → State → ℕ
-proveLen b id st = proofLen (shapeOf (proofOf st (nonceOf b) id))
+-- a batch of which some requests pass
+pub raises : {s : List ℕ} {st to : State} (requests verdicts : List ℕ) (qs : List Request) → Bytes requests → Stands s st → batchRefusal requests verdicts ≡ 0
+    → judgedBatch st (asked requests verdicts) .passed ≡ qs → (length qs ≡ 0 → ⊥) → incremented st qs ≡ to
+    → Done (settledBy s (HostCall.increment requests verdicts)) (st .clock .0 + 1) to
+raises {s} {st} {to} requests verdicts qs bytes here whole pass some becomes =
+    let passed = ap (λ (x : State). judgedBatch x (asked requests verdicts) .passed) (here .says) ∙ pass in
+    let steady = subst (λ (l : List Request). Steady (incremented (decode s) l)) passed
+    (batch-steady s (here .kept) requests verdicts bytes (λ none. some (ap length (sym passed) ∙ none)) whole) in
+    subst (λ (r : Settled). Done r (st .clock .0 + 1) to) (sym (batch-settled s requests verdicts qs passed some))
+    (done (λ x. batchRefusal requests verdicts) (λ x. x .clock .0 + 1) (λ x. incremented x qs) here whole steady becomes)
+
+-- the length of a proof, from its entries'
+abbrev pub proveLen : CounterId → State → ℕ
+proveLen id st = logOffset Kind.Read + lensOf (entriesOf st id)
+
+pub prove-length : {s : List ℕ} {st : State} (b : ℕ) (id : CounterId) → Stands s st → fieldsLen (proofOf st (nonceOf b) id) ≡ proveLen id st
+unfolding after
+prove-length {s} {st} b id here =
+    let log : EntriesFit (st .log) = subst (λ (x : State). EntriesFit (x .log)) (here .says) (decode-fits s (here .kept .bytes) (sound-laid-out s (here .kept .is-sound)) .log) in
+    ap (λ (n : ℕ). logOffset Kind.Read + n) (log-length (entriesOf st id) (entries-fit-drop (heldOf st id .reading .0 - base st) (st .log) log))
 
 pub proves : {s : List ℕ} {st to : State} (b : ℕ) (id : CounterId) (output : List ℕ) → Stands s st
-    → proveRefusal st (nonceOf b) id (proveLen b id st) (length output) ≡ 0 → counted st id ≡ to
-    → Done (settledBy s (HostCall.prove (nonceOf b) id output)) (proveLen b id st) to
-proves {s} b id output here none becomes =
-    done (λ x. proveRefusal x (nonceOf b) id (proveLen b id x) (length output)) (proveLen b id) (λ x. counted x id) here none
-    (counted-steady s (here .kept) id) becomes
+    → proveRefusal st (nonceOf b) id (proveLen id st) (length output) ≡ 0 → counted st id ≡ to
+    → Done (settledBy s (HostCall.prove (nonceOf b) id output)) (proveLen id st) to
+proves {s} {st} {to} b id output here none becomes =
+    let len : State → ℕ = λ x. fieldsLen (proofOf x (nonceOf b) id) in
+    let long = prove-length b id here in
+    subst (λ (n : ℕ). Done (settledBy s (HostCall.prove (nonceOf b) id output)) n to) long
+    (done (λ x. proveRefusal x (nonceOf b) id (len x) (length output)) len (λ x. counted x id) here
+    (ap (λ (n : ℕ). proveRefusal st (nonceOf b) id n (length output)) long ∙ none) (counted-steady s (here .kept) id) becomes)
 
 abbrev pub closing : CounterId → ℕ → HostCall
 closing id t = HostCall.close (signed id t) 1

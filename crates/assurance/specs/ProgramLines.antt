@@ -2,21 +2,26 @@
 use Prim.Native.Nat.{ℕ, zero, suc, _^_, _<_}
 use mathlib.Core.Path.{_≡_, refl}
 use mathlib.Core.Bool.{Bool, true, false, cond, _&&_}
-use mathlib.Core.List.{List, [], _∷_}
+use mathlib.Core.List.{List, [], _∷_, _++_}
 use native.Mathlib.Omega.{arith}
 use lib.Dec.{leb}
 use lib.ListN.{length, replicate}
 use borrow.Author.Tests.{leb-true}
 use Rattle.forms.specs.Bytes.{Bytes, same}
-use Rattle.forms.specs.Limits.{largest}
+use Rattle.forms.specs.Limits.{largest, nonceLen}
+use Rattle.forms.specs.Number.{digits}
+use Rattle.forms.specs.NumberLaws.{bytes-digits}
+use Rattle.forms.specs.Request.{requestBytes}
 use Rattle.forms.specs.TestsLaws.{both}
+use Rattle.forms.specs.declared.terms.CounterId.{CounterId}
+use Rattle.log_image.specs.ImageParts.{bytes-append}
 use Rattle.grammar.specs.Command.{startName, openName, tickName, incName, readName, proveName, lastName, confirmName, oneOf, twoOf, thirdTo, argumentsOf, ofByte, named, byWords, words, commandOf}
 use Rattle.grammar.specs.Numeral.{unpadded, allDigits, valueOf, figureOf}
 use Rattle.grammar.specs.declared.command.Arguments.{Arguments}
 use Rattle.grammar.specs.declared.command.Command.{Command}
 use Rattle.grammar.specs.declared.numeral.Figure.{Figure}
 use Rattle.console.specs.Session.{maxLine, lineCommand}
-use Rattle.console.specs.Step.{nonceOf, emptyOutput, yes}
+use Rattle.console.specs.Step.{nonceOf, emptyOutput, yes, requestOf}
 use Rattle.assurance.specs.HostList.{HostCall, Widths}
 
 -- the call that a command makes; a line that is none of the commands makes none, and `read` leaves the image as it does
@@ -24,7 +29,7 @@ abbrev pub callOf : Command → HostCall
 callOf (Command.Start clock) = HostCall.start clock
 callOf (Command.Open c) = HostCall.«open» c yes
 callOf (Command.Tick b) = HostCall.tick (nonceOf b)
-callOf (Command.Increment b id before) = HostCall.increment (nonceOf b) id before yes
+callOf (Command.Increment b id before) = HostCall.increment (requestOf b id before) (yes ∷ [])
 callOf (Command.Read id) = HostCall.read id
 callOf (Command.Prove b id) = HostCall.prove (nonceOf b) id emptyOutput
 callOf (Command.Last id t) = HostCall.last id t emptyOutput
@@ -93,6 +98,13 @@ nonce-bytes zero b small (suc k) = omega arith
 nonce-bytes (suc n) b small zero = small
 nonce-bytes (suc n) b small (suc k) = nonce-bytes n b small k
 
+-- a request with such a nonce
+pub request-bytes : (b : ℕ) (id : CounterId) (before : ℕ) → b < 256 → Bytes (requestOf b id before)
+unfolding requestBytes
+request-bytes b id before small =
+    bytes-append (nonceOf b ++ digits 4 (id .0)) (digits 4 before)
+    (bytes-append (nonceOf b) (digits 4 (id .0)) (nonce-bytes nonceLen b small) (bytes-digits 4 (id .0))) (bytes-digits 4 before)
+
 byte-fits : (b : ℕ) (c : Command) → (b < 256 → Fits c) → Fits (ofByte b c)
 byte-fits b c fits = by-test (leb b 255) refl
   where
@@ -103,15 +115,15 @@ byte-fits b c fits = by-test (leb b 255) refl
 named-fits : (name : List ℕ) (a : Arguments) → ArgumentsFit a → Fits (named name a)
 named-fits name (Arguments.One a) fits =
     choice-fits (same name startName) _ _ fits
-    (choice-fits (same name tickName) _ _ (byte-fits a (Command.Tick a) (nonce-bytes 20 a))
+    (choice-fits (same name tickName) _ _ (byte-fits a (Command.Tick a) (nonce-bytes nonceLen a))
     (choice-fits (same name readName) _ _ fits (omega arith)))
 named-fits name (Arguments.Two a b) fits =
-    choice-fits (same name proveName) _ _ (byte-fits a (Command.Prove a (record { 0 = b })) (λ small. (nonce-bytes 20 a small, fits .1)))
+    choice-fits (same name proveName) _ _ (byte-fits a (Command.Prove a (record { 0 = b })) (λ small. (nonce-bytes nonceLen a small, fits .1)))
     (choice-fits (same name lastName) _ _ (fits .0) (omega arith))
 named-fits name (Arguments.Three a b c) fits =
     choice-fits (same name openName) _ _ (record { id = fits .0; value = fits .1; reading = fits .2 })
     (choice-fits (same name incName) _ _
-    (byte-fits a (Command.Increment a (record { 0 = b }) c) (λ small. (nonce-bytes 20 a small, fits .1, fits .2)))
+    (byte-fits a (Command.Increment a (record { 0 = b }) c) (request-bytes a (record { 0 = b }) c))
     (choice-fits (same name confirmName) _ _ (record { id = fits .0; value = fits .1; reading = fits .2 }) (omega arith)))
 named-fits name Arguments.Bad fits = omega arith
 

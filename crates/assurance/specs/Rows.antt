@@ -12,20 +12,23 @@ use Rattle.forms.specs.Bytes.{same, window}
 use Rattle.forms.specs.BytesLaws.{same-equal, window-whole}
 use Rattle.forms.specs.Chain.{followsBy}
 use Rattle.forms.specs.Checks.{Row, firstOf}
+use Rattle.forms.specs.Entry.{Entry}
 use Rattle.forms.specs.Limits.{nonceLen}
+use Rattle.forms.specs.Request.{names, placeOf, beforeOf, nonceOf, namesTwice}
 use Rattle.forms.specs.TestsLaws.{both, neither}
 use Rattle.forms.specs.Terms.{globalClock, sameId}
 use Rattle.forms.specs.TermsLaws.{same-id}
 use Rattle.forms.specs.declared.confirmation.Confirmation.{Confirmation}
 use Rattle.forms.specs.declared.terms.CounterId.{CounterId}
 use Rattle.forms.specs.declared.terms.GlobalClock.{GlobalClock}
+use Rattle.digest.specs.Seal.{isSealed}
 use Rattle.validity.specs.Proof.{miscounted, logOffset}
 use Rattle.validity.specs.ProofLaws.{count-some}
 use Rattle.validity.specs.declared.proof.Kind.{Kind}
 use Rattle.validity.specs.declared.proof.Proof.{Proof}
 use Rattle.desk.specs.Answer.{figures}
 use Rattle.desk.specs.declared.answer.Answer.{Answer}
-use Rattle.desk.specs.Desk.{confirmation, certificate, entry, verdictsBefore, verdictCount, zeroOrOne, isNo, moduleVerdict, ownerVerdict, isOwn, runningTo, badWanted, badVerdicts, badConfirmation, certificateDenied, moduleDenied, closesElsewhere, wrongReading, wrongClosing, breaksChain, closing}
+use Rattle.desk.specs.Desk.{confirmation, certificate, entry, verdictsBefore, verdictCount, verdictPlace, zeroOrOne, isNo, moduleVerdict, ownerVerdict, isOwn, closesOn, runningTo, badWanted, badVerdicts, badConfirmation, certificateDenied, moduleDenied, forged, repeated, closesElsewhere, wrongReading, wrongClosing, breaksChain, closing}
 use Rattle.desk.specs.LowestLaws.{Clear}
 
 -- ---- a table of refusals
@@ -86,12 +89,12 @@ zero-or-one-low (b ∷ verdicts) e zero = leb-true b 1 (both (leb b 1) (zeroOrOn
 zero-or-one-low (b ∷ verdicts) e (suc k) = zero-or-one-low verdicts (both (leb b 1) (zeroOrOne verdicts) e .1) k
 
 -- 6
-pub verdicts-right : (p : Proof) (verdicts : List ℕ) → badVerdicts p verdicts ≡ false
-    → (length verdicts ≡ verdictCount p) × ((k : ℕ) → getD verdicts k 0 ≤ 1)
+pub verdicts-right : (p : Proof) (s verdicts : List ℕ) → badVerdicts p s verdicts ≡ false
+    → (length verdicts ≡ verdictCount s p) × ((k : ℕ) → getD verdicts k 0 ≤ 1)
 unfolding badVerdicts
-verdicts-right p verdicts e =
-    let each = neither (not (eqb (length verdicts) (verdictCount p))) (not (zeroOrOne verdicts)) e in (
-      eqb-true (length verdicts) (verdictCount p) (not-false (eqb (length verdicts) (verdictCount p)) (each .0)),
+verdicts-right p s verdicts e =
+    let each = neither (not (eqb (length verdicts) (verdictCount s p))) (not (zeroOrOne verdicts)) e in (
+      eqb-true (length verdicts) (verdictCount s p) (not-false (eqb (length verdicts) (verdictCount s p)) (each .0)),
       zero-or-one-low verdicts (not-false (zeroOrOne verdicts) (each .1)),
     )
 
@@ -112,22 +115,33 @@ unfolding certificateDenied
 certificate-said kind verdicts e read = subst (λ (k : Kind). certificateDenied k verdicts ≡ false) read e
 
 -- 9, of the entries
-pub module-said : (verdicts : List ℕ) (before n : ℕ) → Clear (moduleDenied verdicts before) n
-    → (k : ℕ) → 1 ≤ k → k ≤ n → isNo (moduleVerdict verdicts before k) ≡ false
+pub module-said : (s : List ℕ) (log : ℕ) (verdicts : List ℕ) (before n : ℕ) → Clear (moduleDenied s log verdicts before) n
+    → (k : ℕ) → 1 ≤ k → k ≤ n → isNo (moduleVerdict s log verdicts before k) ≡ false
 unfolding moduleDenied
-module-said verdicts before n clear = clear
+module-said s log verdicts before n clear = clear
+
+-- 30
+pub digest-right : (s : List ℕ) (log n : ℕ) → Clear (forged s log) n → (k : ℕ) → 1 ≤ k → k ≤ n → isSealed (entry s log k) ≡ true
+unfolding forged
+digest-right s log n clear k low high = not-false (isSealed (entry s log k)) (clear k low high)
+
+-- 31
+pub named-once : (s : List ℕ) (log n : ℕ) → Clear (repeated s log) n → (k : ℕ) → 1 ≤ k → k ≤ n → namesTwice (entry s log k .requests) ≡ false
+unfolding repeated
+named-once s log n clear = clear
 
 -- a nonce that compares as the wanted one is it
-same-nonce : (own nonce : List ℕ) → length nonce ≡ nonceLen → not (same own (window nonce 0 nonceLen)) ≡ false → own ≡ nonce
-same-nonce own nonce long e = same-equal own (window nonce 0 nonceLen) (not-false (same own (window nonce 0 nonceLen)) e) ∙ window-whole nonce nonceLen long
+same-nonce : (own nonce : List ℕ) → length nonce ≡ nonceLen → same own (window nonce 0 nonceLen) ≡ true → own ≡ nonce
+same-nonce own nonce long e = same-equal own (window nonce 0 nonceLen) e ∙ window-whole nonce nonceLen long
 
--- an entry that is the counter's own names it and has the owner's yes
-own-right : (s : List ℕ) (log : ℕ) (verdicts : List ℕ) (before : ℕ) (id : CounterId) (i : ℕ) → isOwn s log verdicts before id i ≡ true
-    → (entry s log i .id ≡ id) × (isNo (ownerVerdict verdicts before i) ≡ false)
-unfolding isOwn
-own-right s log verdicts before id i e =
-    let each = both (sameId (entry s log i .id) id) (not (isNo (ownerVerdict verdicts before i))) e in
-    (same-id (entry s log i .id) id (each .0), not-true (isNo (ownerVerdict verdicts before i)) (each .1))
+-- an entry that a proof may close on names the counter, with the owner's yes, and its request has the nonce
+closes-right : (e : Entry) (verdicts : List ℕ) (owners : ℕ) (id : CounterId) (nonce : List ℕ) → length nonce ≡ nonceLen → closesOn e verdicts owners id nonce ≡ true
+    → (names id (e .requests) ≡ true) × (isNo (getD verdicts (owners + placeOf id (e .requests)) 0) ≡ false) × (nonceOf id (e .requests) ≡ nonce)
+closes-right e verdicts owners id nonce long is =
+    let said = isNo (getD verdicts (owners + placeOf id (e .requests)) 0) in
+    let each = both (names id (e .requests) && not said) (same (nonceOf id (e .requests)) (window nonce 0 nonceLen)) is in
+    let own = both (names id (e .requests)) (not said) (each .0) in
+    (own .0, not-true said (own .1), same-nonce (nonceOf id (e .requests)) nonce long (each .1))
 
 module _ (kind : Kind) (n : ℕ) (s verdicts : List ℕ) (id : CounterId) (nonce : List ℕ) (long : length nonce ≡ nonceLen)
     (e : closesElsewhere (record { kind = kind; count = n }) s verdicts id nonce ≡ false) where
@@ -136,21 +150,26 @@ module _ (kind : Kind) (n : ℕ) (s verdicts : List ℕ) (id : CounterId) (nonce
   unfolding closesElsewhere
   certificate-closes read =
       same-nonce (certificate s .nonce) nonce long
-      (subst (λ (k : Kind). closesElsewhere (record { kind = k; count = n }) s verdicts id nonce ≡ false) read e)
+      (not-false (same (certificate s .nonce) (window nonce 0 nonceLen))
+      (subst (λ (k : Kind). closesElsewhere (record { kind = k; count = n }) s verdicts id nonce ≡ false) read e))
+
+  -- what 10 says of the last entry, in kind 2
+  abbrev pub LastCloses : Kind → Type 0
+  LastCloses k =
+      (names id (entry s (logOffset k) n .requests) ≡ true)
+      × (isNo (ownerVerdict s (logOffset k) verdicts (verdictsBefore k) id n) ≡ false)
+      × (nonceOf id (entry s (logOffset k) n .requests) ≡ nonce)
 
   -- 10, in kind 2
-  pub last-closes : kind ≡ Kind.Increment
-      → ((entry s (logOffset kind) n .id ≡ id) × (isNo (ownerVerdict verdicts (verdictsBefore kind) n) ≡ false)) × (entry s (logOffset kind) n .nonce ≡ nonce)
+  pub last-closes : kind ≡ Kind.Increment → LastCloses kind
   unfolding closesElsewhere
   last-closes increment =
-      subst (λ (k : Kind). ((entry s (logOffset k) n .id ≡ id) × (isNo (ownerVerdict verdicts (verdictsBefore k) n) ≡ false)) × (entry s (logOffset k) n .nonce ≡ nonce))
-      (sym increment)
+      subst LastCloses (sym increment)
       (let log = logOffset Kind.Increment in
-      let before = verdictsBefore Kind.Increment in
-      let each = neither (not (isOwn s log verdicts before id n)) (not (same (entry s log n .nonce) (window nonce 0 nonceLen)))
-      (subst (λ (k : Kind). closesElsewhere (record { kind = k; count = n }) s verdicts id nonce ≡ false) increment e)
-      in
-      (own-right s log verdicts before id n (not-false (isOwn s log verdicts before id n) (each .0)), same-nonce (entry s log n .nonce) nonce long (each .1)))
+      let owners = verdictPlace s log (verdictsBefore Kind.Increment) n + 1 in
+      closes-right (entry s log n) verdicts owners id nonce long
+      (not-false (closesOn (entry s log n) verdicts owners id nonce)
+      (subst (λ (k : Kind). closesElsewhere (record { kind = k; count = n }) s verdicts id nonce ≡ false) increment e)))
 
 -- 11
 pub readings-right : (s : List ℕ) (log : ℕ) (start : GlobalClock) (n : ℕ) → Clear (wrongReading s log start) n
@@ -185,7 +204,8 @@ closing-read kind n s read = ap (λ (k : Kind). closing (record { kind = k; coun
 -- 13
 pub chain-right : (s : List ℕ) (log : ℕ) (verdicts : List ℕ) (before : ℕ) (id : CounterId) (value n : ℕ) → Clear (breaksChain s log verdicts before id value) n
     → (k : ℕ) → 1 ≤ k → k ≤ n
-    → followsBy (isOwn s log verdicts before id k) (runningTo s log verdicts before id value (k - 1) .value) (entry s log k) ≡ true
+    → followsBy (isOwn s log verdicts before id k) (runningTo s log verdicts before id value (k - 1) .value) (beforeOf id (entry s log k .requests)) ≡ true
 unfolding breaksChain
 chain-right s log verdicts before id value n clear k low high =
-    not-false (followsBy (isOwn s log verdicts before id k) (runningTo s log verdicts before id value (k - 1) .value) (entry s log k)) (clear k low high)
+    not-false (followsBy (isOwn s log verdicts before id k) (runningTo s log verdicts before id value (k - 1) .value) (beforeOf id (entry s log k .requests)))
+    (clear k low high)

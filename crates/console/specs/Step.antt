@@ -4,15 +4,17 @@ use Prim.Native.Nat.{ℕ}
 use mathlib.Core.Bool.{cond}
 use mathlib.Core.List.{List, [], _∷_, _++_}
 use lib.Dec.{eqb}
-use lib.ListN.{length, take, replicate}
+use lib.ListN.{length, getD, take, replicate}
 use Rattle.forms.specs.Limits.{nonceLen, maxProofLen}
+use Rattle.forms.specs.Request.{requestBytes}
 use Rattle.forms.specs.declared.terms.CounterId.{CounterId}
 use Rattle.validity.specs.Proof.{Fields}
 use Rattle.log_image.specs.State.{decode}
 use Rattle.desk.specs.Answer.{figures}
 use Rattle.desk.specs.Desk.{allYes, verified}
 use Rattle.desk.specs.declared.answer.Answer.{Answer}
-use Rattle.host.specs.Host.{Settled, startCall, openCall, tickCall, incrementCall, readCall, proveCall, lastCall, confirmCall}
+use Rattle.host.specs.Host.{Settled, startCall, openCall, tickCall, incrementCall, incrementFigures, readCall, proveCall, lastCall, confirmCall}
+use Rattle.host.specs.declared.answer.BatchFigures.{BatchFigures}
 use Rattle.host.specs.declared.answer.Figures.{Figures}
 use Rattle.host.specs.declared.answer.ReadFigures.{ReadFigures}
 use Rattle.host.specs.Host.{proofOf, lastOf, proveOutput, lastOutput, requestNonce}
@@ -39,6 +41,14 @@ deskFigures answer = record { number = figures answer .number; value = figures a
 abbrev pub readFigures : ReadFigures → Figures
 readFigures r = record { number = r .number; value = r .value }
 
+-- a request as bytes
+abbrev pub requestOf : ℕ → CounterId → ℕ → List ℕ
+requestOf b id before = requestBytes (record { nonce = nonceOf b; id = id; before = before })
+
+-- of what increment gives for a batch of one, the request's own number, or that of the batch refused as a whole, and the value
+abbrev pub singleFigures : BatchFigures → Figures
+singleFigures f = record { number = cond (eqb (f .number) 0) (getD (f .numbers) 0 0) (f .number); value = f .value }
+
 -- "`prove` and `last` print, when written, the desk's number and value": the desk gets the proof at its length. One that the host refuses has
 -- the host's
 unfoldable pub shown : Figures → Fields → List ℕ → CounterId → List ℕ → Figures
@@ -49,7 +59,11 @@ unfoldable pub ran : List ℕ → Command → Settled
 ran s (Command.Start clock) = startCall s clock
 ran s (Command.Open c) = openCall s c yes
 ran s (Command.Tick b) = tickCall s (nonceOf b)
-ran s (Command.Increment b id before) = incrementCall s (nonceOf b) id before yes
+ran s (Command.Increment b id before) =
+    record {
+      figures = singleFigures (incrementFigures s (requestOf b id before) (yes ∷ []));
+      image = incrementCall s (requestOf b id before) (yes ∷ []) .image;
+    }
 ran s (Command.Read id) = record { figures = readFigures (readCall s id); image = s }
 ran s (Command.Prove b id) =
     let call : Settled = proveCall s (nonceOf b) id (length emptyOutput) in

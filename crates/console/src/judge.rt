@@ -1,16 +1,21 @@
 // prove and last as lines ask for them: the host writes the proof, and the desk judges it with every verdict yes.
 use desk::verdicts::verdict_count;
 use desk::verify::verify;
-use forms::entry::Entry;
+use forms::entry::Head;
+use forms::entry::entry_len;
 use forms::image::Image;
+use forms::log::LogEnd;
 use forms::nonce;
 use forms::nonce::Nonce;
+use forms::request::Request;
+use forms::requests::find;
 use forms::terms::CounterId;
 use forms::terms::GlobalClock;
 use host::answer::Figures;
 use host::last::last;
 use host::prove::prove;
 use log_image::header::entry_count;
+use log_image::header::laid_out;
 use text::part::front;
 use validity::proof::Kind;
 use validity::proof::Proof;
@@ -18,14 +23,17 @@ ghost use mathlib.Core.Path.{_≡_};
 ghost use Prim.Native.Nat.{ℕ, _≤_};
 ghost use lib.ListN.{replicate, take};
 ghost use Rattle.forms.specs.Entry.{entriesAt};
-ghost use Rattle.forms.specs.Limits.{imageLogOffset, maxEntries, maxProofLen};
+ghost use Rattle.forms.specs.Limits.{imageLogOffset, maxProofLen};
+ghost use Rattle.log_image.specs.Sound.{laidOut};
+ghost use Rattle.log_image.specs.State.{entryCount};
+ghost use mathlib.Core.Bool.{true};
 ghost use Rattle.desk.specs.Desk.{verdictsFor, verified};
 ghost use Rattle.grammar.specs.declared.command.Command.{Command};
 ghost use Rattle.console.specs.Step.{deskFigures, ran};
 ghost use Rattle.console.specs.StepLaws.{FoundIn, FoundNonce};
 
-// The most verdicts on a proof: on the confirmation, on the certificate, and two on each entry.
-const MAX_VERDICTS: usize = 2 + 2 * (Proof::MAX_ENTRIES as usize);
+// The most verdicts on a proof: on the confirmation, on the certificate, and two on each entry of one request.
+const MAX_VERDICTS: usize = 2 + 2 * (LogEnd::MAX_UNITS as usize);
 
 // The desk's number and value for the proof of a kind at the start of an output.
 fn judge(kind: Kind, len: u32, out: &[u8], id: CounterId, nonce: &[u8]) -> Figures
@@ -55,34 +63,38 @@ pub(crate) fn show_prove(image: &mut [u8], byte: u8, id: CounterId) -> Figures
     judge(Kind::Read, written.value, &out, id, &nonce)
 }
 
-// The nonce of a counter's request in the entry with a reading, where one of the first entries of the log is that.
+// The nonce of a counter's request in the entry with a reading, where one of the entries of the log is that.
 fn nonce_among(image: &[u8], id: CounterId, t: GlobalClock, count: u32) -> Nonce
-    requires { ⌜ count ≤ maxEntries ⌝ }
+    requires { ⌜ (laidOut (now image) ≡ true) × (count ≡ entryCount (now image)) ⌝ }
     ensures { λ r. ⌜ FoundNonce id t (entriesAt (now (image .entry)) imageLogOffset count) r ⌝ }
 {
     let mut offset = Image::LOG;
     let mut left = count;
     while 0 < left {
         left -= 1;
-        if Entry::id_at(image, offset).0 == id.0 {
-            if Entry::reading_at(image, offset).0 == t.0 {
-                return Entry::nonce_at(image, offset);
+        let requests = Head::count_at(image, offset);
+        if Head::reading_at(image, offset).0 == t.0 {
+            let index = find(image, offset + Head::LEN, requests, id);
+            if index < requests {
+                return Request::nonce_at(
+                    image,
+                    offset + Head::LEN + Request::LEN * (index as usize),
+                );
             }
         }
-        offset += Entry::LEN;
+        offset += entry_len(requests);
     }
     [0u8; nonce::LEN]
 }
 
-// The nonce of a counter's request in the entry with a reading, where the log has no more entries than an image can have.
+// The nonce of a counter's request in the entry with a reading, where the image has its layout.
 fn request_nonce(image: &[u8], id: CounterId, t: GlobalClock) -> Nonce
     ensures { λ r. ⌜ FoundIn id t (now (image .entry)) r ⌝ }
 {
-    let count = entry_count(image);
-    if Image::MAX_ENTRIES < count {
+    if !laid_out(image) {
         return [0u8; nonce::LEN];
     }
-    nonce_among(image, id, t, count)
+    nonce_among(image, id, t, entry_count(image))
 }
 
 // last, and the desk's answer where a proof was written.

@@ -3,12 +3,13 @@ use crate::judge::show_last;
 use crate::judge::show_prove;
 use forms::bytes::put;
 use forms::nonce;
+use forms::request::Request;
 use forms::terms::CounterId;
 use grammar::command::Command;
 use host::answer::Figures;
+use host::batch::increment;
 use host::confirm::confirm;
 use host::open::open;
-use host::raise::increment;
 use host::raise::tick;
 use host::read::read;
 use host::start::start;
@@ -17,11 +18,14 @@ ghost use mathlib.Core.Path.{_≡_};
 ghost use Prim.Native.Nat.{_+_, _≤_};
 ghost use lib.ListN.{length};
 ghost use Rattle.forms.specs.Bytes.{overwrite};
+ghost use Rattle.grammar.specs.declared.command.Command.{Command};
 ghost use Rattle.host.specs.Host.{readCall};
 ghost use Rattle.console.specs.Step.{answerText, maxAnswer, ran, readFigures};
 
-// The owner's verdict on every confirmation and request.
+// The owner's verdict on every confirmation, and on every request.
 const YES: u32 = 1;
+
+const SIGNED: [u8; 1] = [1];
 
 // A line that is none of the commands.
 const NO_COMMAND: u32 = 27;
@@ -37,6 +41,28 @@ fn show_read(image: &[u8], id: CounterId) -> Figures
     }
 }
 
+// increment as a line asks for it: a batch of one. A line prints the request's own number, or that of a batch refused as a whole.
+fn show_increment(image: &mut [u8], byte: u8, id: CounterId, before: u32) -> Figures
+    ensures { λ r. ⌜ r ≡ ran (now (image .entry)) (Command.Increment byte id before) .figures ⌝ }
+    ensures { λ _. ⌜ now (image .exit) ≡ ran (now (image .entry)) (Command.Increment byte id before) .image ⌝ }
+{
+    let mut requests = [0u8; Request::LEN];
+    Request::new([byte; nonce::LEN], id, before).write(&mut requests, 0);
+    let verdicts = SIGNED;
+    let shown = increment(image, &requests, &verdicts);
+    let numbers = shown.numbers;
+    if shown.number != 0 {
+        return Figures {
+            number: shown.number,
+            value: shown.value,
+        };
+    }
+    Figures {
+        number: numbers[0],
+        value: shown.value,
+    }
+}
+
 // What a command answers. The image is as the host leaves it; after a refusal, and for a line that is no command, it is as it was.
 //
 // Ruled out, among others: a console that prints the length of a proof that the desk turns away; one that clears the image at a bad line.
@@ -48,13 +74,7 @@ pub fn step(image: &mut [u8], command: Command) -> Figures
         Command::Start(clock) => start(image, clock),
         Command::Open(confirmation) => open(image, confirmation, YES),
         Command::Tick(byte) => tick(image, &[byte; nonce::LEN]),
-        Command::Increment(byte, id, before) => increment(
-            image,
-            &[byte; nonce::LEN],
-            id,
-            before,
-            YES,
-        ),
+        Command::Increment(byte, id, before) => show_increment(image, byte, id, before),
         Command::Read(id) => show_read(image, id),
         Command::Prove(byte, id) => show_prove(image, byte, id),
         Command::Last(id, t) => show_last(image, id, t),

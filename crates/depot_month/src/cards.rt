@@ -30,7 +30,7 @@ const PROOFS: usize = 32;
 
 // Where a counter's card begins: at most where the last one does.
 fn card(place: u32) -> usize
-    ensures { λ r. ⌜ r ≤ 264416 ⌝ }
+    ensures { λ r. ⌜ r ≤ 936160 ⌝ }
 {
     FIRST + CARD * ((place % COUNTERS) as usize)
 }

@@ -12,7 +12,7 @@ use crate::plan::drawn;
 use crate::plan::tablet_away;
 use crate::prove::asked_without_room;
 use crate::raise::dock_raises;
-use crate::raise::tablet_raises;
+use crate::raise::minute;
 use crate::raise::ticked;
 use crate::retire::retired;
 use crate::retire::settled;
@@ -71,13 +71,16 @@ fn opening(step: Step, day: u32, image: &mut [u8], books: &mut [u8]) {
     retired(place, step.rest / 16 % 4, day, image, books);
 }
 
-// A raise by a dock, or by the counter's tablet where that is not away.
+// A raise by a dock, or by the counter's tablet where that is not away; other tablets, up to seven, and one time in four the dock come in the
+// same minute.
 fn raised(step: Step, day: u32, image: &mut [u8], books: &mut [u8]) {
     let place = step.place;
     if step.what < 5 || tablet_away(place, day) {
         dock_raises(place, 1, image, books);
     } else {
-        tablet_raises(place, day, image, books);
+        let tablets = 1 + step.rest % 8;
+        let dock = step.rest / 8 % 4 == 0;
+        minute(place, tablets, dock, day, image, books);
     }
 }
 

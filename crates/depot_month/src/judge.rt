@@ -7,14 +7,15 @@ use desk::answer::Figures;
 use desk::verdicts::verdict_count;
 use desk::verify::verify;
 use forms::confirmation::Confirmation;
+use forms::log::LogEnd;
 use forms::nonce::Nonce;
 use forms::terms::GlobalClock;
 use text::part::front;
 use validity::proof::Kind;
 use validity::proof::Proof;
 
-// Verdict bytes of the longest proof.
-const VERDICTS: usize = 2 + 2 * (Proof::MAX_ENTRIES as usize);
+// The most verdict bytes on a proof.
+const VERDICTS: usize = 2 + 2 * (LogEnd::MAX_UNITS as usize);
 
 // What a proof is judged for: its counter and nonce, the reading that it has to close on and the value that the host stands for.
 pub struct Wanted {

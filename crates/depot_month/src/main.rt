@@ -1,8 +1,9 @@
 // A month at the depot: the host's calls in one long order, with the module's history run beside them. Sixty-four counters, tablets that
-// come back with old values, confirmations that come late, a log that fills, and boxes that are scrapped and replaced. Every proof that
-// the host writes goes to the desk, and what the desk shows is compared with the history. Proofs are counted for each box, and what close
-// answers and what the records have at the end is compared with that count. What is kept beside the image stands in one buffer, the books: the
-// module's history, a card for each place, and a tally. The expected output is calculated from the documents and not by this program.
+// come back with old values and share increments, confirmations that come late, a log that fills, and boxes that are scrapped and replaced.
+// Every proof that the host writes goes to the desk, and what the desk shows is compared with the history. Proofs are counted for each box, and
+// what close answers and what the records have at the end is compared with that count. What is kept beside the image stands in one buffer, the
+// books: the module's history, a card for each place, and a tally. The expected output is calculated from the documents and not by this program.
+mod batch;
 mod cards;
 mod day;
 mod invoice;
@@ -40,8 +41,13 @@ fn run(image: &mut [u8], books: &mut [u8]) {
     report::month(image, books);
 }
 
+// Books with nothing in them.
+fn blank() -> [u8; tally::END] {
+    [0u8; tally::END]
+}
+
 fn main() {
     let mut image = [0u8; Image::LEN];
-    let mut books = [0u8; tally::END];
+    let mut books = blank();
     run(&mut image, &mut books);
 }

@@ -4,7 +4,7 @@ use forms::terms::CounterId;
 
 pub(crate) const DAYS: u32 = 30;
 
-pub(crate) const STEPS: u32 = 280;
+pub(crate) const STEPS: u32 = 264;
 
 pub(crate) const COUNTERS: u32 = 64;
 

@@ -4,7 +4,6 @@ use crate::cards::Slip;
 use crate::judge::Wanted;
 use crate::judge::judged;
 use crate::module;
-use crate::plan::FIRST_READING;
 use crate::raise::current;
 use crate::tally;
 use forms::event::ModuleEvent;
@@ -74,7 +73,7 @@ fn read_judged(
 
 // A proof up to the clock, asked for with a new nonce; the host stands for a value.
 fn proved_now(place: u32, value: u32, day: u32, image: &mut [u8], books: &mut [u8]) -> Slip {
-    let nonce = tally::nonce(books);
+    let nonce = tally::nonce(books, 0);
     let mut out = [0u8; Proof::MAX_LEN];
     let figures = prove_asked(place, nonce, image, &mut out, books);
     if figures.number != 0 {
@@ -92,10 +91,11 @@ pub(crate) fn proved(place: u32, day: u32, image: &mut [u8], books: &mut [u8]) -
 
 // The reading of the counter's last raise, or the value before that its request stated: the raise before it, or the opening. Of a counter that
 // was not raised it is no raise of its own, and the host refuses it.
-fn raise_of(value: u32, earlier: bool, books: &[u8]) -> GlobalClock {
+fn raise_of(place: u32, value: u32, earlier: bool, books: &[u8]) -> GlobalClock {
     let newest = GlobalClock(value);
-    if earlier && FIRST_READING < value {
-        return GlobalClock(module::before_at(books, newest));
+    let id = cards::id(books, place);
+    if earlier && module::is_own(books, id, newest) {
+        return GlobalClock(module::before_at(books, id, newest));
     }
     newest
 }
@@ -116,7 +116,7 @@ fn proved_at(
     }
     let wanted = Wanted {
         place,
-        nonce: module::nonce_at(books, t),
+        nonce: module::nonce_at(books, cards::id(books, place), t),
         closing: t,
         value: t.0,
     };
@@ -133,7 +133,7 @@ pub(crate) fn proved_last(
     books: &mut [u8],
 ) -> Slip {
     let value = current(place, image, books);
-    let t = raise_of(value, earlier, books);
+    let t = raise_of(place, value, earlier, books);
     proved_at(place, t, earlier, day, image, books)
 }
 
@@ -141,7 +141,7 @@ pub(crate) fn proved_last(
 // on no invoice.
 pub(crate) fn asked_without_room(place: u32, image: &mut [u8], books: &mut [u8]) {
     let newest = GlobalClock(current(place, image, books));
-    let nonce = tally::nonce(books);
+    let nonce = tally::nonce(books, 0);
     let mut out = [0u8; Proof::HEADER_LEN];
     prove_asked(place, nonce, image, &mut out, books);
     last_asked(place, newest, false, image, &mut out, books);

@@ -73,13 +73,37 @@ fn openings(books: &[u8]) {
     );
 }
 
+// Every raise but the first under an increment is one increment less for the module.
+fn raises(books: &[u8]) {
+    counted(b"raises:#\n", books, tally::RAISES);
+    counted(
+        b"increments that carried them:#\n",
+        books,
+        tally::INCREMENTS,
+    );
+    let raised = tally::count(books, tally::RAISES);
+    let carried = tally::count(books, tally::INCREMENTS);
+    let saved = if carried < raised {
+        raised - carried
+    } else {
+        0
+    };
+    print(b"increments saved by sharing:#\n", &[saved]);
+    counted(
+        b"most raises under one increment:#\n",
+        books,
+        tally::MOST_SHARED,
+    );
+}
+
 fn calls(books: &[u8]) {
     counted(b"calls of the host:#\n", books, tally::CALLS);
     openings(books);
     counted(b"ticks:#\n", books, tally::TICKS);
-    counted(b"raises:#\n", books, tally::RAISES);
+    raises(books);
     refusals(books);
     counted(b"refused by 28:#\n", books, 28);
+    counted(b"refused by 29:#\n", books, 29);
     counted(
         b"old values that tablets came with:#\n",
         books,
@@ -98,6 +122,11 @@ fn calls(books: &[u8]) {
     counted(b"confirmations on a later day:#\n", books, tally::LATE);
     counted(b"the latest, in days:#\n", books, tally::LATEST);
     counted(b"most entries held:#\n", books, tally::MOST_ENTRIES);
+    counted(
+        b"most requests and ticks in these:#\n",
+        books,
+        tally::MOST_UNITS,
+    );
 }
 
 fn proofs(books: &[u8]) {

@@ -1,5 +1,5 @@
 // What the run counts, and the sum that every answer of host and desk and every value of the history goes into: numbers of 32 bits at
-// the end of the books. The first of them count the calls by the number that they answered.
+// the end of the books. The first of them count the calls, and the requests of batches, by the number that they were answered.
 use crate::cards;
 use crate::plan::PRIME;
 use forms::nonce::LEN;
@@ -8,6 +8,7 @@ use forms::number::get_u32;
 use forms::number::put_u32;
 use host::answer::Figures;
 use log_image::header::entry_count;
+use log_image::header::held_log;
 
 const NUMBERS: usize = 96;
 
@@ -85,6 +86,12 @@ pub(crate) const GREATEST_FIGURE: usize = 65;
 
 pub(crate) const FIGURES_DIFFER: usize = 66;
 
+pub(crate) const INCREMENTS: usize = 67;
+
+pub(crate) const MOST_SHARED: usize = 68;
+
+pub(crate) const MOST_UNITS: usize = 69;
+
 pub(crate) fn count(books: &[u8], what: usize) -> u32 {
     get_u32(books, FIRST + 4 * (what % NUMBERS))
 }
@@ -143,18 +150,30 @@ pub(crate) fn mix(books: &mut [u8], figure: u32) {
     set(books, SUM, mixed(sum, figure));
 }
 
-// Takes up what a call of the host answered, and how many entries the image holds after it.
-pub(crate) fn answered(books: &mut [u8], image: &[u8], figures: Figures) {
+// Takes up a call of the host, and how many entries and units the image holds after it.
+pub(crate) fn called(books: &mut [u8], image: &[u8]) {
     add(books, CALLS);
-    add(books, figures.number as usize);
-    mix(books, figures.number);
-    mix(books, figures.value);
     greatest(books, MOST_ENTRIES, entry_count(image));
+    greatest(books, MOST_UNITS, held_log(image).units);
 }
 
-// A nonce that no call had before: the calls so far stand in it.
-pub(crate) fn nonce(books: &[u8]) -> Nonce {
+// Takes up the number that a call, or a request of a batch, was answered.
+pub(crate) fn numbered(books: &mut [u8], number: u32) {
+    add(books, number as usize);
+    mix(books, number);
+}
+
+// Takes up what a call answered that is no batch.
+pub(crate) fn answered(books: &mut [u8], image: &[u8], figures: Figures) {
+    called(books, image);
+    numbered(books, figures.number);
+    mix(books, figures.value);
+}
+
+// A nonce that no call had before: the calls so far stand in it, and the place in a batch.
+pub(crate) fn nonce(books: &[u8], index: u32) -> Nonce {
     let mut nonce = [0x5Au8; LEN];
+    put_u32(&mut nonce, LEN - 8, index);
     put_u32(&mut nonce, LEN - 4, count(books, CALLS));
     nonce
 }

@@ -1,20 +1,19 @@
 // The verdict list: one byte each, 0 no and 1 yes, for the confirmation, in a read's proof the clock certificate, and then for each entry
-// the module's and the owner's.
+// the module's and behind it the owner's on each of its requests.
 use forms::bytes::byte_at;
-use forms::entry::Entry;
+use forms::request::Request;
 use validity::proof::Kind;
 use validity::proof::Proof;
 ghost use mathlib.Core.Path.{_≡_};
-ghost use mathlib.Core.Bool.{false};
-ghost use Prim.Native.Nat.{_+_, _*_, _≤_};
-ghost use lib.Dec.{eqb};
+ghost use mathlib.Core.Bool.{true};
 ghost use lib.ListN.{length};
-ghost use Rattle.desk.specs.Lowest.{lowest};
-ghost use Rattle.desk.specs.Desk.{verdictsBefore, verdictsFor, zeroOrOne, ownBy, badVerdicts, certificateDenied, moduleDenied};
+ghost use Rattle.forms.specs.Log.{endsAt, walk};
+ghost use Rattle.validity.specs.Proof.{logOffset};
+ghost use Rattle.desk.specs.Desk.{verdictsBefore, verdictsFor, zeroOrOne, ownBy, badVerdicts, certificateDenied};
 
 // How many verdicts there are on a proof of a kind and a whole length: so many a station has to hand over.
 //
-// Ruled out, among others: a count without the certificate's verdict in kind 1; one verdict for each entry.
+// Ruled out, among others: a count without the certificate's verdict in kind 1; two verdicts for each entry.
 pub fn verdict_count(kind: Kind, len: usize) -> usize
     ensures { λ r. ⌜ r ≡ verdictsFor kind len ⌝ }
 {
@@ -24,7 +23,7 @@ pub fn verdict_count(kind: Kind, len: usize) -> usize
     if len < log {
         return before;
     }
-    before + 2 * ((len - log) / Entry::LEN)
+    before + (len - log) / Request::LEN
 }
 
 // How many verdicts stand before those of the entries.
@@ -53,19 +52,21 @@ fn zero_or_one(verdicts: &[u8]) -> bool
     fine
 }
 
-// Whether an entry is the wanted counter's own, by the ids or the keys of both counters and by the owner's verdict on the entry. Here alone that
-// verdict counts.
-pub(crate) fn is_own(named: u32, wanted: u32, verdict: u8) -> bool
-    ensures { λ r. ⌜ r ≡ ownBy (eqb named wanted) verdict ⌝ }
+// Whether an entry is the wanted counter's own, by whether a request of it names the counter and by the owner's verdict on that request. Here alone
+// that verdict counts.
+pub(crate) fn is_own(named: bool, verdict: u8) -> bool
+    ensures { λ r. ⌜ r ≡ ownBy named verdict ⌝ }
 {
-    (named == wanted) & (verdict != 0)
+    named & (verdict != 0)
 }
 
-// Check 6: whether the list has another length than the proof's shape asks for, or a byte over 1.
-pub(crate) fn bad(proof: Proof, verdicts: &[u8]) -> bool
-    ensures { λ r. ⌜ r ≡ badVerdicts proof (now (verdicts .entry)) ⌝ }
+// Check 6: whether the list has another length than the proof asks for, or a byte over 1.
+pub(crate) fn bad(proof: Proof, s: &[u8], verdicts: &[u8]) -> bool
+    requires { ⌜ endsAt (walk (now s) (logOffset (proof .kind)) (proof .count)) (length (now s)) ≡ true ⌝ }
+    ensures { λ r. ⌜ r ≡ badVerdicts proof (now (s .entry)) (now (verdicts .entry)) ⌝ }
 {
-    if verdicts.len() != count_before(proof) + 2 * (proof.count as usize) {
+    let kind = proof.kind;
+    if verdicts.len() != verdict_count(kind, s.len()) {
         return true;
     }
     !zero_or_one(verdicts)
@@ -80,21 +81,4 @@ pub(crate) fn certificate_denied(proof: Proof, verdicts: &[u8]) -> bool
         Kind::Read => byte_at(verdicts, 1) == 0,
         Kind::Increment => false,
     }
-}
-
-// Check 9 at the entries: the place of the first that the module denies, 0 where there is none.
-pub(crate) fn first_denied(verdicts: &[u8], before: usize, count: u32) -> u32
-    requires { ⌜ before + 2 * count ≤ length (now verdicts) ⌝ }
-    ensures { λ r. ⌜ r ≡ lowest (moduleDenied (now (verdicts .entry)) before) count ⌝ }
-{
-    let mut at = before;
-    let mut place: u32 = 0;
-    while place < count {
-        place += 1;
-        if verdicts[at] == 0 {
-            return place;
-        }
-        at += 2;
-    }
-    0
 }

@@ -13,9 +13,10 @@ use validity::proof::Parsed;
 use validity::proof::Proof;
 use validity::proof::parse;
 ghost use mathlib.Core.Path.{_≡_};
-ghost use mathlib.Core.Bool.{false};
+ghost use mathlib.Core.Bool.{false, true};
 ghost use lib.ListN.{length};
-ghost use Rattle.validity.specs.Proof.{miscounted, proofLen};
+ghost use Rattle.forms.specs.Log.{endsAt, walk};
+ghost use Rattle.validity.specs.Proof.{logOffset, miscounted};
 ghost use Rattle.desk.specs.Desk.{badWanted, badConfirmation, judged, verified};
 
 // Check 1: whether what is wanted can't be.
@@ -38,14 +39,16 @@ fn bad_confirmation(confirmation: Confirmation, id: CounterId) -> bool
     confirmation.reading.0 < confirmation.value
 }
 
-// Checks 6 to 13, of bytes that read as a proof.
+// Checks 6 to 9, 30, 31, 10, 11 and 13, of bytes that read as a proof.
 fn judge(s: &[u8], proof: Proof, verdicts: &[u8], id: CounterId, nonce: &[u8]) -> Answer
-    requires { ⌜ (miscounted proof ≡ false) × (length (now s) ≡ proofLen proof) ⌝ }
+    requires { ⌜ (miscounted proof ≡ false) × (endsAt (walk (now s) (logOffset (proof .kind)) (proof .count)) (length (now s)) ≡ true) ⌝ }
     ensures { λ r. ⌜ r ≡ judged proof (now (s .entry)) (now (verdicts .entry)) id (now (nonce .entry)) ⌝ }
 {
     let confirmation = Confirmation::read(s, Proof::CONFIRMATION);
     let start = confirmation.reading;
-    if verdicts::bad(proof, verdicts) {
+    let value = confirmation.value;
+    let count = proof.count;
+    if verdicts::bad(proof, s, verdicts) {
         return Answer::Refused(6, 0);
     }
     if bad_confirmation(confirmation, id) {
@@ -57,9 +60,17 @@ fn judge(s: &[u8], proof: Proof, verdicts: &[u8], id: CounterId, nonce: &[u8]) -
     if verdicts::certificate_denied(proof, verdicts) {
         return Answer::Refused(9, 0);
     }
-    let found = walk_log(s, proof, verdicts, id, confirmation);
+    let log = proof.log_offset();
+    let before = verdicts::count_before(proof);
+    let found = walk_log(s, log, count, verdicts, before, id, start, value);
     if found.denied != 0 {
         return Answer::Refused(9, found.denied);
+    }
+    if found.forged != 0 {
+        return Answer::Refused(30, found.forged);
+    }
+    if found.repeated != 0 {
+        return Answer::Refused(31, found.repeated);
     }
     if closes_elsewhere(s, proof, verdicts, id, nonce) {
         return Answer::Refused(10, 0);
@@ -68,19 +79,20 @@ fn judge(s: &[u8], proof: Proof, verdicts: &[u8], id: CounterId, nonce: &[u8]) -
         return Answer::Refused(11, found.wrong);
     }
     if wrong_closing(s, proof, start) {
-        return Answer::Refused(11, proof.count + 1);
+        return Answer::Refused(11, count + 1);
     }
-    if found.walk.place != 0 {
-        return Answer::Refused(13, found.walk.place);
+    if found.broken != 0 {
+        return Answer::Refused(13, found.broken);
     }
-    let running = found.walk.running;
+    let running = found.running;
     Answer::Accepted(running, closing_reading(s, proof))
 }
 
 // The desk's answer to proof, verdicts, wanted counter and wanted nonce. Nothing is asked of the caller, and nothing is written.
 //
 // Ruled out, among others: a desk that answers with the last value before instead of the last reading; one that turns every proof away; one that
-// counts every counter's entries; one whose value moves, or whose proof closes, by an entry that the owner did not sign.
+// counts every counter's entries; one whose value moves, or whose proof closes, by a request that the owner did not sign; one that takes an entry's
+// requests for those that the module was given without their digest.
 pub fn verify(proof: &[u8], verdicts: &[u8], id: CounterId, nonce: &[u8]) -> Answer
     ensures { λ r. ⌜ r ≡ verified (now (proof .entry)) (now (verdicts .entry)) id (now (nonce .entry)) ⌝ }
 {

@@ -1,9 +1,9 @@
-// A case at the desk but for its log and its verdicts: what is written, what is then changed of it, and what is wanted.
+// A case at the desk but for its log, its verdicts and what is then changed of it: what is written, and what is wanted.
 
-// A figure that is not given. As a number of bytes lent it stands for all, and as a place to change it is past the end of every proof.
+// A figure that is not given. As a number of bytes lent it stands for all.
 pub const NOT_GIVEN: u32 = 65536;
 
-pub const FIGURES: usize = 11;
+pub const FIGURES: usize = 10;
 
 pub struct Case {
     pub kind: u32,
@@ -17,11 +17,10 @@ pub struct Case {
     pub id: u32,
     pub nonce: u32,
     pub nonce_len: u32,
+    // How many entries the header counts.
+    pub count: u32,
     // How many bytes are lent.
     pub lent: u32,
-    // Where four bytes are changed, and the number that they become.
-    pub at: u32,
-    pub number: u32,
 }
 
 fn figure(figures: &[u32], i: usize) -> u32 {
@@ -43,9 +42,8 @@ impl Case {
             id: figure(figures, 5),
             nonce: figure(figures, 6),
             nonce_len: figure(figures, 7),
-            lent: figure(figures, 8),
-            at: figure(figures, 9),
-            number: figure(figures, 10),
+            count: figure(figures, 8),
+            lent: figure(figures, 9),
         }
     }
 }

@@ -2,6 +2,7 @@
 // and the longest proofs. All but the longest are lines of the input; the expected output is calculated from the document and not by this program.
 mod answer;
 mod case;
+mod log;
 mod long;
 mod table;
 

@@ -8,9 +8,9 @@ use mathlib.Core.List.{List, [], _∷_, _++_, append-assoc}
 use lib.ListN.{length, replicate, getD, take, drop, length-append, length-take, length-drop, List·getD-eq-default}
 use lib.Seq.{getD-drop, sets, sets-eq, paste, take-length, take-all, drop-cons, take-at, drop-at, length-take-le, drop-drop}
 use mathlib.Core.Logic.{_↔_}
-use lib.Dec.{leb, eqb}
+use lib.Dec.{leb, eqb, lit<}
 use borrow.Author.Tests.{le-leb, lt-leb, eqb-true, eq-eqb, leb-true}
-use Rattle.forms.specs.Bytes.{window, splice, overwrite, same}
+use Rattle.forms.specs.Bytes.{Bytes, window, splice, overwrite, same}
 
 -- ---- a window
 
@@ -61,6 +61,27 @@ pub window-past : (s : List ℕ) (k n : ℕ) → length s ≤ k → window s k n
 unfolding window
 window-past s k zero h = refl
 window-past s k (suc n) h = ap₂ _∷_ (List·getD-eq-default s 0 h) (window-past s (suc k) n (omega arith))
+
+-- ---- bytes
+
+pub bytes-none : Bytes []
+unfolding Bytes
+bytes-none k = lit< tt
+
+pub bytes-cons : (b : ℕ) (l : List ℕ) → b < 256 → Bytes l → Bytes (b ∷ l)
+unfolding Bytes
+bytes-cons b l byte bytes zero = byte
+bytes-cons b l byte bytes (suc k) = bytes k
+
+byte-below : (s : List ℕ) (k : ℕ) → Bytes s → getD s k 0 < 256
+unfolding Bytes
+byte-below s k all = all k
+
+-- a window of bytes has bytes
+pub bytes-window : (s : List ℕ) (k n : ℕ) → Bytes s → Bytes (window s k n)
+unfolding window
+bytes-window s k zero all = bytes-none
+bytes-window s k (suc n) all = bytes-cons (getD s k 0) (window s (suc k) n) (byte-below s k all) (bytes-window s (suc k) n all)
 
 -- ---- storing
 

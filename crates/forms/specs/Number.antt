@@ -1,5 +1,5 @@
--- Big-endian numbers at a place of some bytes, at any width: document 01, "Fields are big-endian"; a number's bytes in the other order; and
--- words in a row: document 02, Note 3. Assumes nothing.
+-- Big-endian numbers at a place of some bytes, at any width: document 01, "Fields are big-endian"; and words in a row: document 02,
+-- Note 3. Assumes nothing.
 use Prim.Native.Nat.{ℕ, zero, suc, _+_, _*_, _/_, _%_, _^_}
 use mathlib.Core.List.{List, [], _∷_, _++_}
 use lib.ListN.{getD}
@@ -15,15 +15,6 @@ abbrev pub digits : ℕ → ℕ → List ℕ
 digits zero x = []
 digits (suc zero) x = x % 256 ∷ []
 digits (suc (suc w)) x = x / 256 ^ suc w % 256 ∷ digits (suc w) x
-
--- the number that some bytes hold, the lowest first
-abbrev pub littleEndian : List ℕ → ℕ
-littleEndian [] = 0
-littleEndian (b ∷ l) = littleEndian l * 256 + b
-
--- the number of w bytes that are those of x in the other order: to be compared only, where the bytes stand unturned
-abbrev pub swapped : ℕ → ℕ → ℕ
-swapped w x = littleEndian (digits w x)
 
 abbrev pub be16 : List ℕ → ℕ → ℕ
 be16 s k = bigEndian 2 s k

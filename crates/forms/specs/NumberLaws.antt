@@ -1,5 +1,5 @@
--- Laws of big-endian numbers, over the width: a number stored reads as that number, bytes read as a number are its digits, a number reads
--- the same wherever its bytes stand, and numbers agree where their bytes in the other order do. Assumes nothing.
+-- Laws of big-endian numbers, over the width: a number stored reads as that number, bytes read as a number are its digits, and a number
+-- reads the same wherever its bytes stand. Assumes nothing.
 use mathlib.Core.Path.{_≡_, refl, sym, ap, ap₂, _∙_, subst}
 use Prim.Native.Nat.{ℕ, zero, suc, _+_, _*_, _/_, _%_, _^_, _≤_, _<_}
 use native.Mathlib.Nat.{zero-add, add-assoc, pow-suc, pow-succ', div-div-eq-div-mul, div-add-mod', div-lt-iff-lt-mul}
@@ -8,12 +8,10 @@ use mathlib.Core.List.{List, [], _∷_, _++_, append-assoc}
 use lib.ListN.{length, getD, drop, List·getD-append, List·getD-eq-default}
 use lib.Seq.{getD-at, getD-drop}
 use lib.Arith.{digits-lt, digits-div, digits-mod}
-use lib.Dec.{lit<, eqb}
-use mathlib.Core.Bool.{Bool, true, false}
-use borrow.Author.Tests.{eqb-true, eqb-false, eq-eqb, ne-eqb}
+use lib.Dec.{lit<}
 use Rattle.forms.specs.Bytes.{Bytes, window}
-use Rattle.forms.specs.BytesLaws.{window-snoc}
-use Rattle.forms.specs.Number.{bigEndian, digits, littleEndian, swapped}
+use Rattle.forms.specs.BytesLaws.{window-snoc, window-append, bytes-none, bytes-cons}
+use Rattle.forms.specs.Number.{bigEndian, be32, digits}
 
 pub length-digits : (w x : ℕ) → length (digits w x) ≡ w
 length-digits zero x = refl
@@ -89,46 +87,13 @@ bigEndian-past (suc (suc w)) s k h =
     ap₂ (λ (high low : ℕ). high * 256 + low) (bigEndian-past (suc w) s k h)
     (List·getD-eq-default s 0 {n = k + suc w} (omega arith))
 
--- ---- a number's bytes in the other order
-
--- digits are bytes
-bytes-cons : (b : ℕ) (l : List ℕ) → b < 256 → Bytes l → Bytes (b ∷ l)
-unfolding Bytes
-bytes-cons b l byte bytes zero = byte
-bytes-cons b l byte bytes (suc k) = bytes k
-
-bytes-none : Bytes []
-unfolding Bytes
-bytes-none k = lit< tt
+-- ---- bytes written
 
 pub bytes-digits : (w x : ℕ) → Bytes (digits w x)
 bytes-digits zero x = bytes-none
 bytes-digits (suc zero) x = bytes-cons (x % 256) [] (omega arith) bytes-none
 bytes-digits (suc (suc w)) x = bytes-cons (x / 256 ^ suc w % 256) (digits (suc w) x) (omega arith) (bytes-digits (suc w) x)
 
--- bytes are known by the number that they hold, the lowest first, and how many they are
-little-known : (l m : List ℕ) → Bytes l → Bytes m → length l ≡ length m → littleEndian l ≡ littleEndian m → l ≡ m
-unfolding Bytes
-little-known [] [] bl bm n e = refl
-little-known [] (c ∷ m) bl bm n e = absurd (omega (arith, n))
-little-known (b ∷ l) [] bl bm n e = absurd (omega (arith, n))
-little-known (b ∷ l) (c ∷ m) bl bm n e =
-    let low : b < 256 = bl 0 in
-    let low' : c < 256 = bm 0 in
-    ap₂ _∷_ (omega arith) (little-known l m (λ k. bl (suc k)) (λ k. bm (suc k)) (omega (arith, n)) (omega arith))
-
--- numbers are the same where their bytes in the other order are
-swapped-known : (w x y : ℕ) → x < 256 ^ w → y < 256 ^ w → swapped w x ≡ swapped w y → x ≡ y
-swapped-known w x y hx hy e =
-    sym (bigEndian-digits w x [] hx)
-    ∙ ap (λ (l : List ℕ). bigEndian w (l ++ []) 0)
-    (little-known (digits w x) (digits w y) (bytes-digits w x) (bytes-digits w y) (length-digits w x ∙ sym (length-digits w y)) e)
-    ∙ bigEndian-digits w y [] hy
-
-pub same-swapped : (w x y : ℕ) (t : Bool) → x < 256 ^ w → y < 256 ^ w → eqb x y ≡ t → eqb (swapped w x) (swapped w y) ≡ t
-same-swapped w x y true hx hy e = eq-eqb _ _ (ap (swapped w) (eqb-true x y e))
-same-swapped w x y false hx hy e = ne-eqb _ _ (λ same. eqb-false x y e (swapped-known w x y hx hy same))
-
--- the bytes as they stand hold, the lowest first, the number in the other order
-pub swapped-bigEndian : (w : ℕ) (s : List ℕ) (k : ℕ) → Bytes s → swapped w (bigEndian w s k) ≡ littleEndian (window s k w)
-swapped-bigEndian w s k b = ap littleEndian (digits-bigEndian w s k b)
+-- a number behind a part
+pub window-next : {front : List ℕ} (s : List ℕ) (k n : ℕ) → Bytes s → front ≡ window s k n → front ++ digits 4 (be32 s (k + n)) ≡ window s k (n + 4)
+window-next s k n b e = ap₂ (λ (front back : List ℕ). front ++ back) e (digits-bigEndian 4 s (k + n) b) ∙ sym (window-append s k n 4)

@@ -3,7 +3,6 @@
 use Prim.Native.Nat.{ℕ}
 use mathlib.Core.Bool.{Bool}
 use lib.Dec.{eqb}
-use Rattle.forms.specs.Number.{swapped}
 pub use Rattle.forms.specs.declared.terms.CounterId.{CounterId}
 pub use Rattle.forms.specs.declared.terms.GlobalClock.{GlobalClock}
 
@@ -12,10 +11,6 @@ counterId n = record { 0 = n }
 
 abbrev pub globalClock : ℕ → GlobalClock
 globalClock n = record { 0 = n }
-
--- what an id is known by where many are compared: its four bytes in the other order, which is how one load gives them
-abbrev pub key : CounterId → ℕ
-key id = swapped 4 (id .0)
 
 -- whether two ids name the same counter
 abbrev pub sameId : CounterId → CounterId → Bool

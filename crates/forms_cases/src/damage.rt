@@ -1,7 +1,7 @@
 // Copies of a valid proof with one entry under another header, and the number with which reading refuses them.
 use crate::sample;
 use crate::table::FIGURES;
-use forms::entry::Entry;
+use forms::log::LogEnd;
 use forms::number::put_u16;
 use forms::number::put_u32;
 use text::line::put_figure;
@@ -18,7 +18,7 @@ pub(crate) fn put_valid(kind: u32, entries: &[u8], bytes: &mut [u8]) {
         sample::confirmation(),
         sample::certificate(),
         1,
-        front(entries, Entry::LEN),
+        front(entries, LogEnd::UNIT_LEN),
         bytes,
     );
 }
@@ -39,11 +39,12 @@ fn put_header(figures: [u32; FIGURES], bytes: &mut [u8]) {
     }
 }
 
-// `read form kind length confirmation certificate log entries lent valid`: the valid proof of the last kind under a header of the first
-// seven figures, of which so many bytes are lent.
+// `read form kind length confirmation certificate log entries lent valid at number`: the valid proof of the last kind under a header of the first
+// seven figures, of which so many bytes are lent, and four bytes that are changed behind the header.
 pub(crate) fn case(text: &mut [u8], at: usize, figures: [u32; FIGURES], entries: &[u8]) -> usize {
     let mut bytes = [sample::UNTOUCHED; sample::OUTPUT_LEN];
     put_valid(figures[8], entries, &mut bytes);
+    put_u32(&mut bytes, figures[9] as usize, figures[10]);
     put_header(figures, &mut bytes);
     let end = put_number(text, at, front(&bytes, figures[7] as usize));
     put_words(text, end, b"\n")

@@ -1,12 +1,13 @@
-// The fields that a proof's bytes read as, a line each for the confirmation, the clock certificate, the first and the last entry. Each
-// function puts its part into the text of a case from a place on, and answers the place behind it.
+// The fields that a proof's bytes read as, a line each for the confirmation, the clock certificate, the first and the last entry and their requests.
+// Each function puts its part into the text of a case from a place on, and answers the place behind it.
 use crate::sample;
 use forms::certificate::Certificate;
 use forms::confirmation::Confirmation;
-use forms::entry::Entry;
-use forms::event::Carried;
-use forms::event::Event;
-use forms::event::ModuleEvent;
+use forms::entry::Head;
+use forms::entry::entry_len;
+use forms::log::log_end;
+use forms::nonce::nonce_at;
+use forms::request::Request;
 use text::checksum::checksum;
 use text::line::put_figure;
 use text::line::put_filled;
@@ -63,51 +64,66 @@ fn put_certificate_of(text: &mut [u8], at: usize, s: &[u8], proof: Proof) -> usi
     }
 }
 
-fn put_carried(text: &mut [u8], at: usize, carried: Carried) -> usize {
-    match carried {
-        Carried::Request(id, before) => put_filled(text, at, b" request##", &[id.0, before]),
-        Carried::Tick => put_words(text, at, b" tick"),
-    }
+// Ends the line with one number for a nonce, whether it is that of a seed and whether it is another.
+fn put_nonce(text: &mut [u8], at: usize, sum: u32, same: bool, other: bool) -> usize {
+    let end = put_figure(text, at, sum);
+    put_verdicts(text, end, same, other)
 }
 
-fn put_event(text: &mut [u8], at: usize, event: Event) -> usize {
-    match event {
-        Event::Increment(carried) => put_carried(text, at, carried),
-        Event::Read => put_words(text, at, b" read"),
-    }
-}
-
-fn put_module_event(text: &mut [u8], at: usize, read: ModuleEvent) -> usize {
-    let event = read.event;
-    let nonce = read.nonce;
-    let end = put_event(text, at, event);
-    put_figure(text, end, checksum(&nonce))
-}
-
-// Reading, id, value before and the nonce; and the event with its nonce.
-fn put_held(text: &mut [u8], at: usize, read: Entry, place: u32) -> usize {
-    let nonce = read.nonce;
+// Id, value before and nonce of the request at an offset.
+fn put_request(text: &mut [u8], at: usize, s: &[u8], offset: usize, index: u32, seed: u8) -> usize {
     let figures = [
-        place,
-        read.reading.0,
-        read.id.0,
-        read.before,
-        checksum(&nonce),
+        index,
+        Request::id_at(s, offset).0,
+        Request::before_at(s, offset),
     ];
-    let end = put_filled(text, at, b"entry#:####", &figures);
-    put_module_event(text, end, read.event())
-}
-
-fn put_entry(text: &mut [u8], at: usize, s: &[u8], offset: usize, place: u32) -> usize {
-    let nonce = sample::nonce(sample::entry_seed(place));
-    let other = sample::other(sample::entry_seed(place));
-    let end = put_held(text, at, Entry::read(s, offset), place);
-    put_verdicts(
+    let end = put_filled(text, at, b"request#:##", &figures);
+    let nonce = Request::nonce_at(s, offset);
+    put_nonce(
         text,
         end,
-        Entry::nonce_is(s, offset, &nonce),
-        Entry::nonce_is(s, offset, &other),
+        checksum(&nonce),
+        Request::nonce_is(s, offset, &sample::nonce(seed)),
+        Request::nonce_is(s, offset, &sample::other(seed)),
     )
+}
+
+// Reading, count and nonce of the entry at an offset.
+fn put_head(text: &mut [u8], at: usize, s: &[u8], offset: usize, place: u32) -> usize {
+    if s.len() <= offset {
+        return at;
+    }
+    let seed = sample::entry_seed(place);
+    let figures = [
+        place,
+        Head::reading_at(s, offset).0,
+        Head::count_at(s, offset),
+    ];
+    let end = put_filled(text, at, b"entry#:##", &figures);
+    let nonce = nonce_at(s, offset + Head::NONCE);
+    put_nonce(
+        text,
+        end,
+        checksum(&nonce),
+        Head::nonce_is(s, offset, &sample::nonce(seed)),
+        Head::nonce_is(s, offset, &sample::other(seed)),
+    )
+}
+
+// The entry at an offset and its requests, a line each.
+fn put_entry(text: &mut [u8], at: usize, s: &[u8], offset: usize, place: u32) -> usize {
+    if s.len() <= offset {
+        return at;
+    }
+    let mut end = put_head(text, at, s, offset, place);
+    let count = Head::count_at(s, offset);
+    let mut index: u32 = 0;
+    while index < count {
+        let seed = sample::request_seed(place, index);
+        end = put_request(text, end, s, offset + entry_len(index), index, seed);
+        index += 1;
+    }
+    end
 }
 
 // The first entry, and the last where it is another.
@@ -120,10 +136,7 @@ fn put_entries(text: &mut [u8], at: usize, s: &[u8], log: usize, count: u32) -> 
     if last == 0 {
         return end;
     }
-    if s.len() <= log {
-        return end;
-    }
-    put_entry(text, end, s, log + Entry::LEN * (last as usize), last)
+    put_entry(text, end, s, log_end(s, log, last).offset, last)
 }
 
 // The fields of bytes that read as a proof.

@@ -1,9 +1,11 @@
 // Fields that writing refuses, and the output that it keeps; and outputs that the proof just fits.
 use crate::sample;
 use crate::table::FIGURES;
+use crate::table::part;
+use forms::bytes::put;
+use forms::number::put_u32;
 use text::checksum::checksum;
 use text::line::put_filled;
-use text::part::front;
 use text::part::least;
 use validity::writing::write;
 
@@ -29,10 +31,27 @@ fn put_written(
     put_filled(text, at, b"####\n", &figures)
 }
 
-// `given kind entries bytes room`: so many of the entries' bytes, and an output of so many.
+// Changes four bytes behind a place, but those at the place itself.
+fn change(entries: &mut [u8], place: u32, at: u32, number: u32) {
+    if at != 0 {
+        put_u32(entries, place as usize + at as usize, number);
+    }
+}
+
+// `given kind entries place bytes room at number`: the place and the number of the entries' bytes, an output of so many, and four bytes of the
+// entries that are changed, none where they are the first.
 pub(crate) fn case(text: &mut [u8], at: usize, figures: [u32; FIGURES], entries: &[u8]) -> usize {
-    let lent = front(entries, figures[2] as usize);
+    let mut copy = [0u8; sample::ENTRIES_ROOM];
+    put(&mut copy, 0, entries);
+    change(&mut copy, figures[2], figures[5], figures[6]);
     let mut out = [sample::UNTOUCHED; sample::OUTPUT_LEN];
-    let room = least(figures[3] as usize, sample::OUTPUT_LEN);
-    put_written(text, at, figures[0], figures[1], lent, &mut out[0..room])
+    let room = least(figures[4] as usize, sample::OUTPUT_LEN);
+    put_written(
+        text,
+        at,
+        figures[0],
+        figures[1],
+        part(&copy, figures[2], figures[3]),
+        &mut out[0..room],
+    )
 }

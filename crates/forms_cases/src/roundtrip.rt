@@ -2,16 +2,15 @@
 use crate::fields::put_read_back;
 use crate::sample;
 use crate::table::FIGURES;
+use crate::table::part;
 use forms::certificate::Certificate;
 use forms::confirmation::Confirmation;
-use forms::entry::Entry;
 use forms::terms::CounterId;
 use forms::terms::GlobalClock;
 use text::line::put_filled;
-use text::part::between;
 use validity::writing::write;
 
-// Writes the fields with so many entries from a place on: number, value, what the bytes written read as and the whole output; then the fields
+// Writes the fields with so many entries: number, value, what the bytes written read as and the whole output; then the fields
 // read back.
 fn put_written(
     text: &mut [u8],
@@ -20,20 +19,16 @@ fn put_written(
     confirmation: Confirmation,
     certificate: Certificate,
     count: u32,
-    place: u32,
-    entries: &[u8],
+    log: &[u8],
 ) -> usize {
-    let from = Entry::LEN * (place as usize);
-    let to = from + Entry::LEN * (count as usize);
-    let log = between(entries, from, to);
     let mut out = [sample::UNTOUCHED; sample::OUTPUT_LEN];
     let answer = write(kind, confirmation, certificate, count, log, &mut out);
     let end = put_filled(text, at, b"##", &[answer.number(), answer.value()]);
     put_read_back(text, end, &out, answer.value() as usize)
 }
 
-// `write kind entries counter value reading certificate place`: the confirmation, the reading of the certificate, and the place of the
-// first entry.
+// `write kind entries counter value reading certificate place bytes`: the confirmation, the reading of the certificate, and the place and the number
+// of the entries' bytes.
 pub(crate) fn case(text: &mut [u8], at: usize, figures: [u32; FIGURES], entries: &[u8]) -> usize {
     let id = CounterId(figures[2]);
     let confirmation = Confirmation::new(id, figures[3], GlobalClock(figures[4]));
@@ -46,7 +41,6 @@ pub(crate) fn case(text: &mut [u8], at: usize, figures: [u32; FIGURES], entries:
         confirmation,
         certificate,
         figures[1],
-        figures[6],
-        entries,
+        part(entries, figures[6], figures[7]),
     )
 }

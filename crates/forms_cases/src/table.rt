@@ -1,6 +1,8 @@
-// The table of cases. A case is a line with a word that says what is tried, and figures in the order that the function for it names. What is
-// printed before its answer stands in the last line above that begins with `>`: words, with `#` for each figure in order; figures that are left
-// over are not printed. Every other line is passed over: an empty one, and one behind `#`, which says what the lines below it try.
+// The table of cases. A case is a line with a word that says what is tried, and figures in the order that the function for it names, up to an equals
+// sign, behind which stands what is expected. What is printed before its answer stands in the last line above that begins with `>`: words, with
+// `#` for each figure in order; figures that are left over are not printed. Every other line is passed over: an empty one, and one behind `#`, which
+// says what the lines below it try.
+use crate::counts;
 use crate::damage;
 use crate::nonces;
 use crate::refusal;
@@ -15,14 +17,33 @@ use text::part::find;
 use text::part::front;
 
 // The most figures of a line.
-pub const FIGURES: usize = 9;
+pub const FIGURES: usize = 11;
 
-// The figures of a case, 0 where there is none.
-fn figures(line: &[u8]) -> [u32; FIGURES] {
+// So many of the bytes from a place on; none where they are not there.
+pub(crate) fn part(s: &[u8], place: u32, len: u32) -> &[u8] {
+    let from = place as usize;
+    let to = from + len as usize;
+    if to <= s.len() {
+        &s[from..to]
+    } else {
+        &s[0..0]
+    }
+}
+
+// Stores the figures of a case, and answers how many there are. A space stands behind the last.
+fn read(line: &[u8], figures: &mut [u32]) -> usize {
     let space = find(line, 0, b' ');
-    let mut figures = [0u32; FIGURES];
-    read_figures(between(line, space, line.len()), &mut figures);
-    figures
+    let count = read_figures(between(line, space, find(line, space, b'=')), figures);
+    if count == 0 { 0 } else { count - 1 }
+}
+
+// The first figures, or all where there are no more.
+fn first(figures: &[u32], count: usize) -> &[u32] {
+    if count < figures.len() {
+        &figures[0..count]
+    } else {
+        figures
+    }
 }
 
 // A word is known by its first letter. One that is none of these shows in the output: it has words and no answer.
@@ -31,6 +52,7 @@ fn put_case(
     at: usize,
     word: u8,
     figures: [u32; FIGURES],
+    count: usize,
     entries: &[u8],
 ) -> usize {
     match word {
@@ -39,6 +61,8 @@ fn put_case(
         b'r' => damage::case(text, at, figures, entries),
         b'b' => sweep::bytes(text, at, figures, entries),
         b'l' => sweep::lengths(text, at, figures, entries),
+        b'v' => counts::walked(text, at, first(&figures, count)),
+        b'a' => counts::among(text, at, first(&figures, count)),
         b'n' => nonces::case(text, at, figures, entries),
         _ => at,
     }
@@ -50,10 +74,16 @@ fn row(words: &[u8], line: &[u8], entries: &[u8]) {
     if word < b'a' {
         return;
     }
-    let figures = figures(line);
+    let mut figures = [0u32; FIGURES];
+    let count = read(line, &mut figures);
     let mut text = io::buffer();
-    let mut end = put_filled(&mut text, 0, between(words, 2, words.len()), &figures);
-    end = put_case(&mut text, end, word, figures, entries);
+    let mut end = put_filled(
+        &mut text,
+        0,
+        between(words, 2, words.len()),
+        first(&figures, count),
+    );
+    end = put_case(&mut text, end, word, figures, count, entries);
     io::write_all(STDOUT_FILENO, front(&text, end));
 }
 

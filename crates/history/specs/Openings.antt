@@ -5,8 +5,8 @@ use mathlib.Core.Bool.{Bool, cond}
 use mathlib.Core.List.{List}
 use Rattle.forms.specs.declared.terms.CounterId.{CounterId}
 use Rattle.forms.specs.declared.terms.GlobalClock.{GlobalClock}
-use Rattle.forms.specs.declared.event.ModuleEvent.{ModuleEvent}
 use Rattle.forms.specs.Terms.{globalClock}
+use Rattle.history.specs.History.{HistoryEvent}
 use Rattle.history.specs.Value.{Signatures, counts}
 
 -- how many of the readings g + 1 .. g + k count
@@ -15,5 +15,5 @@ numberOf counting g zero = 0
 numberOf counting g (suc k) = numberOf counting g k + cond (counting (globalClock (g + suc k))) 1 0
 
 -- the number of increments after a reading up to another that carry an owner-signed request for a counter
-unfoldable pub openingsBetween : Signatures → CounterId → GlobalClock → List ModuleEvent → GlobalClock → GlobalClock → ℕ
+unfoldable pub openingsBetween : Signatures → CounterId → GlobalClock → List HistoryEvent → GlobalClock → GlobalClock → ℕ
 openingsBetween signed id first es after up-to = numberOf (counts signed id first es) (after .0) (up-to .0 - after .0)

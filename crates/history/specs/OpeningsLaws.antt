@@ -11,8 +11,8 @@ use Rattle.forms.specs.Chain.{raised}
 use Rattle.forms.specs.declared.running.Running.{Running}
 use Rattle.forms.specs.declared.terms.CounterId.{CounterId}
 use Rattle.forms.specs.declared.terms.GlobalClock.{GlobalClock}
-use Rattle.forms.specs.declared.event.ModuleEvent.{ModuleEvent}
 use Rattle.forms.specs.Terms.{globalClock}
+use Rattle.history.specs.History.{HistoryEvent}
 use Rattle.history.specs.Openings.{numberOf, openingsBetween}
 use Rattle.history.specs.Value.{Signatures, counts, valueAt}
 use Rattle.history.specs.ValueLaws.{valueAt-largest, valueAt-within, valueAt-walks-on}
@@ -90,7 +90,7 @@ module _ (counting : GlobalClock → Bool) where
       value-of q t true = refl
       value-of q t false = refl
 
-module _ (signed : Signatures) (id : CounterId) (first : GlobalClock) (es : List ModuleEvent) where
+module _ (signed : Signatures) (id : CounterId) (first : GlobalClock) (es : List HistoryEvent) where
   -- the numbers of two ranges that adjoin add up
   pub openings-append : (a b c : GlobalClock) → a .0 ≤ b .0 → b .0 ≤ c .0
       → openingsBetween signed id first es a c ≡ openingsBetween signed id first es a b + openingsBetween signed id first es b c

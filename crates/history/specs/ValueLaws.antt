@@ -1,69 +1,132 @@
 -- Laws of a counter's value: which readings count, that the value is the largest of them, how it goes along the clock, and that it looks
 -- no further than its reading. Assumes nothing.
 use Prim.Native.Nat.{ℕ, zero, suc, _+_, _-_, _≤_, _<_}
-use mathlib.Core.Path.{_≡_, refl, sym, ap, subst, _∙_}
-use mathlib.Core.Bool.{Bool, true, false, cond, _&&_, true≢false, false≢true}
+use mathlib.Core.Path.{_≡_, refl, sym, ap, ap₂, subst, _∙_}
+use mathlib.Core.Bool.{Bool, true, false, cond, _&&_, _||_, or-true, or-false, true≢false, false≢true}
 use mathlib.Core.Logic.{inl, inr, ⊎-elim}
-use mathlib.Core.List.{List, _++_}
+use mathlib.Core.List.{List, [], _∷_, _++_}
 use native.Mathlib.Nat.{sub-self, add-sub-cancel-left}
 use native.Mathlib.Decide.{decLe}
 use native.Mathlib.Omega.{arith}
 use borrow.Author.Tests.{eqb-true, eq-eqb}
 use Rattle.forms.specs.declared.terms.CounterId.{CounterId}
 use Rattle.forms.specs.declared.terms.GlobalClock.{GlobalClock}
-use Rattle.forms.specs.declared.event.Carried.{Carried}
-use Rattle.forms.specs.declared.event.ModuleEvent.{ModuleEvent}
+use Rattle.forms.specs.declared.request.Request.{Request}
+use Rattle.forms.specs.Request.{names, namesTwice, nonceOf, beforeOf}
 use Rattle.forms.specs.Terms.{counterId, globalClock, sameId}
-use Rattle.history.specs.History.{clockAfter, Made, made, unmade, incrementAt}
+use Rattle.history.specs.History.{Given, HistoryEvent, carried, clockAfter, Made, made, unmade, incrementAt}
 use Rattle.history.specs.HistoryLaws.{increment-stays}
-use Rattle.history.specs.Value.{Request, Signatures, carriesSigned, counts, largest, valueAt, Largest}
+use Rattle.history.specs.Value.{Signatures, signedAmong, carriesSigned, counts, largest, valueAt, Largest}
 use Rattle.history.specs.Walk.{pass, walk}
 use Rattle.history.specs.WalkLaws.{walk-last, walk-append, walk-agree}
 
--- a reading counts only where its increment carries a request of the counter that is signed
-pub counted-signed : (signed : Signatures) (id : CounterId) (first : GlobalClock) (es : List ModuleEvent) (t : GlobalClock)
-    → counts signed id first es t ≡ true
-    → (before : ℕ) × (nonce : List ℕ) × (incrementAt first es t ≡ made (Carried.Request id before) nonce)
-    × (signed (record { nonce = nonce; id = id; before = before }) ≡ true)
-unfolding counts
-counted-signed signed id first es t h = carried (incrementAt first es t) refl h
-  where
-    both : (other : CounterId) (before : ℕ) (nonce : List ℕ) (b : Bool) → sameId other id ≡ b
-        → (b && signed (record { nonce = nonce; id = other; before = before })) ≡ true
-        → (other ≡ id) × (signed (record { nonce = nonce; id = other; before = before }) ≡ true)
-    both other before nonce true same h′ = (ap counterId (eqb-true (other .0) (id .0) same), h′)
-    both other before nonce false same h′ = absurd (false≢true h′)
+-- an owner-signed request for a counter that stands among some requests
+pub record SignedIn (signed : Signatures) (id : CounterId) (qs : List Request) : Type 0 where
+  pub request : Request
+  pub earlier : List Request
+  pub later : List Request
+  pub split : qs ≡ earlier ++ (request ∷ later)
+  pub own : request .id ≡ id
+  pub approved : signed request ≡ true
 
-    carried : (m : Made) → incrementAt first es t ≡ m → carriesSigned signed id m ≡ true
-        → (before : ℕ) × (nonce : List ℕ) × (incrementAt first es t ≡ made (Carried.Request id before) nonce)
-        × (signed (record { nonce = nonce; id = id; before = before }) ≡ true)
-    carried (made (Carried.Request other before) nonce) e h′ =
-        let found = both other before nonce (sameId other id) refl h′ in (
-          before,
-          nonce,
-          e ∙ ap (λ (i : CounterId). made (Carried.Request i before) nonce) (found .0),
-          subst (λ (i : CounterId). signed (record { nonce = nonce; id = i; before = before }) ≡ true) (found .0) (found .1),
-        )
-    carried (made Carried.Tick nonce) e h′ = absurd (false≢true h′)
-    carried unmade e h′ = absurd (false≢true h′)
+signed-in : (signed : Signatures) (id : CounterId) (qs : List Request) → signedAmong signed id qs ≡ true → SignedIn signed id qs
+unfolding signedAmong
+signed-in signed id [] h = absurd (false≢true h)
+signed-in signed id (q ∷ qs) h = here (sameId (q .id) id) (signed q) refl refl (λ h′. further (signed-in signed id qs h′)) h
+  where
+    further : SignedIn signed id qs → SignedIn signed id (q ∷ qs)
+    further found =
+        record {
+          request = found .request;
+          earlier = q ∷ found .earlier;
+          later = found .later;
+          split = ap (λ (l : List Request). q ∷ l) (found .split);
+          own = found .own;
+          approved = found .approved;
+        }
+
+    here : (b c : Bool) → sameId (q .id) id ≡ b → signed q ≡ c → (signedAmong signed id qs ≡ true → SignedIn signed id (q ∷ qs))
+        → ((b && c) || signedAmong signed id qs) ≡ true → SignedIn signed id (q ∷ qs)
+    here true true same approved others h′ =
+        record { request = q; earlier = []; later = qs; split = refl; own = ap counterId (eqb-true (q .id .0) (id .0) same); approved = approved }
+    here true false same approved others h′ = others h′
+    here false c same approved others h′ = others h′
+
+-- a reading counts only where its increment carries a request of the counter that is signed
+pub counted-signed : (signed : Signatures) (id : CounterId) (first : GlobalClock) (es : List HistoryEvent) (t : GlobalClock)
+    → counts signed id first es t ≡ true
+    → (given : Given) × (incrementAt first es t ≡ made given) × SignedIn signed id (carried given)
+unfolding counts
+counted-signed signed id first es t h = found (incrementAt first es t) refl h
+  where
+    found : (m : Made) → incrementAt first es t ≡ m → carriesSigned signed id m ≡ true
+        → (given : Given) × (incrementAt first es t ≡ made given) × SignedIn signed id (carried given)
+    found (made given) e h′ = (given, e, signed-in signed id (carried given) h′)
+    found unmade e h′ = absurd (false≢true h′)
+
+-- where no request is the counter's, none is a signed one for it
+unsigned-none : (signed : Signatures) (id : CounterId) (qs : List Request) → names id qs ≡ false → signedAmong signed id qs ≡ false
+unfolding names signedAmong
+unsigned-none signed id [] none = refl
+unsigned-none signed id (q ∷ qs) none = other (sameId (q .id) id) (unsigned-none signed id qs) none
+  where
+    other : (b : Bool) → (names id qs ≡ false → signedAmong signed id qs ≡ false) → (b || names id qs) ≡ false
+        → ((b && signed q) || signedAmong signed id qs) ≡ false
+    other true others h = absurd (true≢false h)
+    other false others h = others h
+
+-- where no counter is named twice, the counter's one request is signed or not
+pub signed-once : (signed : Signatures) (id : CounterId) (qs : List Request) → namesTwice qs ≡ false
+    → signedAmong signed id qs ≡ (names id qs && signed (record { nonce = nonceOf id qs; id = id; before = beforeOf id qs }))
+unfolding names namesTwice nonceOf beforeOf signedAmong
+signed-once signed id [] once = refl
+signed-once signed id (q ∷ qs) once =
+    let each = neither (names (q .id) qs) (namesTwice qs) once in
+    here (sameId (q .id) id) refl (each .0) (signed-once signed id qs (each .1))
+  where
+    neither : (a b : Bool) → (a || b) ≡ false → (a ≡ false) × (b ≡ false)
+    neither true b h = absurd (true≢false h)
+    neither false b h = (refl, h)
+
+    here : (b : Bool) → sameId (q .id) id ≡ b → names (q .id) qs ≡ false
+        → signedAmong signed id qs ≡ (names id qs && signed (record { nonce = nonceOf id qs; id = id; before = beforeOf id qs }))
+        → ((b && signed q) || signedAmong signed id qs)
+        ≡ ((b || names id qs) && signed (record { nonce = cond b (q .nonce) (nonceOf id qs); id = id; before = cond b (q .before) (beforeOf id qs) }))
+    here true own alone others =
+        let same : q .id ≡ id = ap counterId (eqb-true (q .id .0) (id .0) own) in
+        ap (λ (b : Bool). signed q || b) (unsigned-none signed id qs (subst (λ (i : CounterId). names i qs ≡ false) same alone))
+        ∙ or-false (signed q)
+        ∙ ap (λ (i : CounterId). signed (record { nonce = q .nonce; id = i; before = q .before })) same
+    here false own alone others = others
 
 -- whether a reading counts is told by its increment
-pub made-counts : (signed : Signatures) (id : CounterId) (first : GlobalClock) (es : List ModuleEvent) (t : GlobalClock) (m : Made)
+pub made-counts : (signed : Signatures) (id : CounterId) (first : GlobalClock) (es : List HistoryEvent) (t : GlobalClock) (m : Made)
     → incrementAt first es t ≡ m
     → counts signed id first es t ≡ carriesSigned signed id m
 unfolding counts
 made-counts signed id first es t m h = ap (carriesSigned signed id) h
 
--- a reading whose increment carries a request of the counter counts where that request is signed
-pub request-counts : (signed : Signatures) (id : CounterId) (first : GlobalClock) (es : List ModuleEvent) (t : GlobalClock) (before : ℕ) (nonce : List ℕ)
-    → incrementAt first es t ≡ made (Carried.Request id before) nonce
-    → counts signed id first es t ≡ signed (record { nonce = nonce; id = id; before = before })
-request-counts signed id first es t before nonce h =
-    made-counts signed id first es t (made (Carried.Request id before) nonce) h
-    ∙ ap (λ (b : Bool). b && signed (record { nonce = nonce; id = id; before = before })) (eq-eqb (id .0) (id .0) refl)
+-- a reading whose increment carries a request of the counter that is signed counts
+pub signed-counted : (signed : Signatures) (id : CounterId) (first : GlobalClock) (es : List HistoryEvent) (t : GlobalClock) (given : Given)
+    → incrementAt first es t ≡ made given
+    → SignedIn signed id (carried given)
+    → counts signed id first es t ≡ true
+unfolding signedAmong
+signed-counted signed id first es t given h found =
+    made-counts signed id first es t (made given) h ∙ ap (signedAmong signed id) (found .split) ∙ among (found .earlier)
+  where
+    q : Request
+    q = found .request
+
+    among : (earlier : List Request) → signedAmong signed id (earlier ++ (q ∷ found .later)) ≡ true
+    among [] =
+        ap₂ (λ (b c : Bool). (b && c) || signedAmong signed id (found .later))
+        (eq-eqb (q .id .0) (id .0) (ap (λ (i : CounterId). i .0) (found .own))) (found .approved)
+    among (x ∷ earlier) =
+        ap (λ (b : Bool). (sameId (x .id) id && signed x) || b) (among earlier) ∙ or-true (sameId (x .id) id && signed x)
 
 -- whether a reading that the clock reached counts stays the same in every longer history
-pub counts-stays : (signed : Signatures) (id : CounterId) (first : GlobalClock) (es fs : List ModuleEvent) (t : GlobalClock)
+pub counts-stays : (signed : Signatures) (id : CounterId) (first : GlobalClock) (es fs : List HistoryEvent) (t : GlobalClock)
     → t .0 ≤ clockAfter first es .0
     → counts signed id first (es ++ fs) t ≡ counts signed id first es t
 unfolding counts
@@ -124,7 +187,7 @@ largest-walk counting g zero = refl
 largest-walk counting g (suc k) =
     ap (λ (v : ℕ). pass counting v (globalClock (g + suc k))) (largest-walk counting g k) ∙ sym (walk-last (pass counting) g (globalClock g) k)
 
-module _ (signed : Signatures) (id : CounterId) (first : GlobalClock) (es : List ModuleEvent) (opened : GlobalClock) where
+module _ (signed : Signatures) (id : CounterId) (first : GlobalClock) (es : List HistoryEvent) (opened : GlobalClock) where
   -- the value is the largest reading that counts
   pub valueAt-largest : (reading : GlobalClock)
       → opened .0 ≤ reading .0
@@ -179,7 +242,7 @@ module _ (signed : Signatures) (id : CounterId) (first : GlobalClock) (es : List
   valueAt-next reading later = valueAt-walks-on reading 1 later
 
   -- the value at a reading that the clock reached stays the same in every longer history
-  pub valueAt-stays : (fs : List ModuleEvent) (reading : GlobalClock)
+  pub valueAt-stays : (fs : List HistoryEvent) (reading : GlobalClock)
       → reading .0 ≤ clockAfter first es .0
       → valueAt signed id first (es ++ fs) opened reading ≡ valueAt signed id first es opened reading
   unfolding valueAt

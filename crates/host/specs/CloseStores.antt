@@ -59,8 +59,8 @@ without-fits st id fits held =
       records = without-records-fit (st .records) id (fits .records);
       counters = omega (arith, length-without (st .records) id held, fits .counters);
       log = fits .log;
-      entries = fits .entries;
-      bytes = fits .bytes;
+      counted = fits .counted;
+      units = fits .units;
     }
 
 -- ---- the record taken out

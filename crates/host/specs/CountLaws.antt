@@ -25,7 +25,7 @@ counted-parts st id s =
           (λ r other b. b);
       span = omega (arith, same, s .span);
       steps = subst (λ (b : ℕ). consecutive b (st .log) ≡ true) same (s .steps);
-      names = s .names;
+      proper = s .proper;
       chain = subst (λ (b : ℕ). Each (Chained b (st .log)) (counted st id .records)) same
           (each-updated id proved (s .differ) (s .chain) (λ held. each-held id (s .chain) held) (λ r other c. c));
     }

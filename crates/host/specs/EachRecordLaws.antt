@@ -7,7 +7,7 @@ use mathlib.Core.Bool.{Bool, true, false, not, cond, _&&_, _||_, false≢true, o
 use mathlib.Core.List.{List, [], _∷_, _++_}
 use lib.Dec.{eqb}
 use lib.ListN.{set}
-use borrow.Author.Tests.{ne-eqb}
+use borrow.Author.Tests.{eq-eqb, ne-eqb}
 use Rattle.forms.specs.Terms.{sameId}
 use Rattle.forms.specs.TermsLaws.{same-id, same-turned}
 use Rattle.forms.specs.declared.confirmation.Confirmation.{Confirmation}
@@ -71,6 +71,24 @@ held-id (r ∷ rs) id held = go (sameId (r .held .id) id) refl held (held-id rs 
         → recordOf (r ∷ rs) id .held .id ≡ id
     go true own held rest = ap (λ (x : Record). x .held .id) (record-own r rs id own) ∙ same-id (r .held .id) id own
     go false other held rest = ap (λ (x : Record). x .held .id) (record-other r rs id other) ∙ rest held
+
+-- where ids differ, every record is that of its own counter
+pub each-found : (rs : List Record) → distinct rs ≡ true → Each (λ r. (holds rs (r .held .id) ≡ true) × (recordOf rs (r .held .id) ≡ r)) rs
+unfolding holds
+each-found [] differ = done
+each-found (x ∷ rs) differ =
+    let parts = distinct-parts x rs differ in
+    let own : sameId (x .held .id) (x .held .id) ≡ true = eq-eqb (x .held .id .0) (x .held .id .0) refl in
+    more (ap (λ (b : Bool). b || holds rs (x .held .id)) own, record-own x rs (x .held .id) own) (each-map (λ r h. later (parts .0) r h) (each-found rs (parts .1)))
+  where
+    later : holds rs (x .held .id) ≡ false → (r : Record) → (holds rs (r .held .id) ≡ true) × (recordOf rs (r .held .id) ≡ r)
+        → ((sameId (x .held .id) (r .held .id) || holds rs (r .held .id)) ≡ true) × (recordOf (x ∷ rs) (r .held .id) ≡ r)
+    later alone r h = go (sameId (x .held .id) (r .held .id)) refl
+      where
+        go : (b : Bool) → sameId (x .held .id) (r .held .id) ≡ b
+            → ((b || holds rs (r .held .id)) ≡ true) × (recordOf (x ∷ rs) (r .held .id) ≡ r)
+        go true same = absurd (false≢true (sym alone ∙ ap (holds rs) (same-id (x .held .id) (r .held .id) same) ∙ h .0))
+        go false other = (h .0, record-other x rs (r .held .id) other ∙ h .1)
 
 -- ---- the oldest reading
 
@@ -139,14 +157,6 @@ each-updated {P} {Q} id change differ (more {r = r} {rs = rs} p ps) own others =
         (each-other id (ap (holds rs) (sym (same-id (r .held .id) id mine)) ∙ distinct-parts r rs differ .0) ps others)
     go false apart rest =
         more (others r apart p) (rest (λ held. subst (λ (x : Record). Q (change x)) (record-other r rs id apart) (own (ap (λ (b : Bool). b || holds rs id) apart ∙ held))))
-
--- where the counter is not held nothing changes
-pub updated-unheld : (rs : List Record) (id : CounterId) (change : Record → Record) → holds rs id ≡ false → updated rs id change ≡ rs
-unfolding updated holds
-updated-unheld [] id change unheld = refl
-updated-unheld (r ∷ rs) id change unheld =
-    let apart = neither (sameId (r .held .id) id) (holds rs id) unheld in
-    ap (λ (b : Bool). cond b (change r ∷ rs) (r ∷ updated rs id change)) (apart .0) ∙ ap (λ (l : List Record). r ∷ l) (updated-unheld rs id change (apart .1))
 
 -- it is at the counter's index
 pub updated-set : (rs : List Record) (id : CounterId) (change : Record → Record) → updated rs id change ≡ set rs (indexOf rs id) (change (recordOf rs id))

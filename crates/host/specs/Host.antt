@@ -1,28 +1,31 @@
--- The host's calls: document 01, "The host", and document 02: Note 4, "close", and Note 6, the proofs counted for each counter. Each is a row
--- of refusals in the order of its numbers, a value and the state after it; on refusal the image stays as it was. Assumes nothing.
-use Prim.Native.Nat.{ℕ, _+_, _-_, min}
+-- The host's calls: document 01, "The host", and document 02: Note 4, "close", Note 6, the proofs counted for each counter, and Note 7, several
+-- requests under one increment. Each is a row of refusals in the order of its numbers, a value and the state after it; on refusal the image stays as
+-- it was. Assumes nothing.
+use Prim.Native.Nat.{ℕ, zero, suc, _+_, _-_, _*_, _/_, _%_, min}
 use mathlib.Core.Bool.{Bool, false, not, cond, _&&_, _||_}
-use mathlib.Core.List.{List, [], _∷_, _++_}
+use mathlib.Core.List.{List, [], _∷_, _++_, foldl}
 use lib.Dec.{eqb, ltb}
-use lib.ListN.{length, take, drop}
+use lib.ListN.{length, getD, replicate, take, drop}
 use Rattle.forms.specs.Chain.{valueAfter, ownEntries}
 use Rattle.forms.specs.declared.running.Running.{Running}
 use Rattle.forms.specs.Checks.{Row, _gives_, firstOf}
-use Rattle.forms.specs.Entry.{entryOf, logBytes}
-use Rattle.forms.specs.Limits.{largest, nonceLen, imageLen, maxCounters, maxEntries}
+use Rattle.forms.specs.Entry.{Entry, logBytes, units}
+use Rattle.forms.specs.Limits.{largest, nonceLen, imageLen, maxCounters, maxRequests, maxUnits, requestLen}
 use Rattle.forms.specs.Record.{taken}
+use Rattle.forms.specs.Request.{names, nonceOf, requestAt}
 use Rattle.forms.specs.Terms.{counterId, globalClock, sameId}
 use Rattle.forms.specs.declared.confirmation.Confirmation.{Confirmation}
-use Rattle.forms.specs.declared.entry.Entry.{Entry}
-use Rattle.forms.specs.declared.event.Carried.{Carried}
+use Rattle.forms.specs.declared.request.Request.{Request}
 use Rattle.forms.specs.declared.terms.CounterId.{CounterId}
 use Rattle.forms.specs.declared.terms.GlobalClock.{GlobalClock}
-use Rattle.validity.specs.Proof.{Fields, read, increment, shapeOf, proofLen, encode as proofBytes}
+use Rattle.validity.specs.Proof.{Fields, fieldsLen, read, increment, encode as proofBytes}
+use Rattle.digest.specs.Seal.{digestOf}
 use Rattle.log_image.specs.State.{Record, State, decode, encode}
 use Rattle.log_image.specs.Sound.{holds, oldest, base, after, ending, sound}
 use Rattle.host.specs.declared.change.Change.{Change}
 pub use Rattle.host.specs.declared.answer.Figures.{Figures}
 pub use Rattle.host.specs.declared.answer.ReadFigures.{ReadFigures}
+pub use Rattle.host.specs.declared.answer.BatchFigures.{BatchFigures}
 
 -- ---- what a state says of a counter
 
@@ -55,15 +58,15 @@ valueAt st id reading =
 abbrev pub namedAfter : State → CounterId → GlobalClock → Bool
 namedAfter st id reading = not (eqb (ownEntries id (after (base st) reading (st .log))) 0)
 
--- an entry of the counter with the reading t is among some entries
+-- an entry with a request of the counter and the reading t is among some entries
 unfoldable pub hasEntry : CounterId → GlobalClock → List Entry → Bool
 hasEntry id t [] = false
-hasEntry id t (e ∷ es) = (sameId (e .id) id && eqb (e .reading .0) (t .0)) || hasEntry id t es
+hasEntry id t (e ∷ es) = (names id (e .requests) && eqb (e .reading .0) (t .0)) || hasEntry id t es
 
 -- the nonce of the counter's request in the entry with the reading t
 unfoldable pub requestNonce : CounterId → GlobalClock → List Entry → List ℕ
 requestNonce id t [] = []
-requestNonce id t (e ∷ es) = cond (sameId (e .id) id && eqb (e .reading .0) (t .0)) (e .nonce) (requestNonce id t es)
+requestNonce id t (e ∷ es) = cond (names id (e .requests) && eqb (e .reading .0) (t .0)) (nonceOf id (e .requests)) (requestNonce id t es)
 
 -- ---- refusals, in number order; 0 where there is none. Of open's, document 02 puts 28 "after 21"
 
@@ -87,25 +90,72 @@ openRefusal st c verdict = firstOf (openRows st c verdict) 0
 abbrev pub tickRows : State → List ℕ → List (Row ℕ)
 tickRows st nonce =
     (badNonce nonce gives 16)
-    ∷ (eqb (length (st .log)) maxEntries gives 24)
+    ∷ (eqb (units (st .log)) maxUnits gives 24)
     ∷ (eqb (st .clock .0) largest gives 25)
     ∷ []
 
 abbrev pub tickRefusal : State → List ℕ → ℕ
 tickRefusal st nonce = firstOf (tickRows st nonce) 0
 
-abbrev pub incrementRows : State → List ℕ → CounterId → ℕ → ℕ → List (Row ℕ)
-incrementRows st nonce id before verdict =
+-- one request of a batch, behind the requests of it that passed: "It refuses by 29 a request whose box the batch already raised (before 22)", and "a
+-- request gets 24 when those held and those passed before it make 1,024"
+abbrev pub requestRows : State → List Request → Request → ℕ → List (Row ℕ)
+requestRows st passed q verdict =
     (not (eqb verdict 1) gives 15)
-    ∷ ((eqb (id .0) 0 || badNonce nonce) gives 16)
-    ∷ (not (holds (st .records) id) gives 17)
-    ∷ (not (eqb before (currentOf st id)) gives 22)
-    ∷ (eqb (length (st .log)) maxEntries gives 24)
+    ∷ (eqb (q .id .0) 0 gives 16)
+    ∷ (not (holds (st .records) (q .id)) gives 17)
+    ∷ (names (q .id) passed gives 29)
+    ∷ (not (eqb (q .before) (currentOf st (q .id))) gives 22)
+    ∷ (eqb (units (st .log) + length passed) maxUnits gives 24)
     ∷ (eqb (st .clock .0) largest gives 25)
     ∷ []
 
-abbrev pub incrementRefusal : State → List ℕ → CounterId → ℕ → ℕ → ℕ
-incrementRefusal st nonce id before verdict = firstOf (incrementRows st nonce id before verdict) 0
+abbrev pub requestRefusal : State → List Request → Request → ℕ → ℕ
+requestRefusal st passed q verdict = firstOf (requestRows st passed q verdict) 0
+
+-- "a batch of none or over 8 gets 16 as a whole", and so do bytes that are no requests and a list of another number of verdicts
+abbrev pub badBatch : List ℕ → List ℕ → Bool
+badBatch requests verdicts =
+    (eqb (length requests) 0 || ltb (requestLen * maxRequests) (length requests))
+    || (not (eqb (length requests % requestLen) 0) || not (eqb (length verdicts) (length requests / requestLen)))
+
+abbrev pub batchRefusal : List ℕ → List ℕ → ℕ
+batchRefusal requests verdicts = cond (badBatch requests verdicts) 16 0
+
+-- what a batch asks: requests, each with the owner's verdict on it
+pub record Asked : Type 0 where
+  pub request : Request
+  pub verdict : ℕ
+
+-- n of them, from the i-th on
+unfoldable pub askedFrom : List ℕ → List ℕ → ℕ → ℕ → List Asked
+askedFrom requests verdicts i zero = []
+askedFrom requests verdicts i (suc n) =
+    record { request = requestAt requests (requestLen * i); verdict = getD verdicts i 0 } ∷ askedFrom requests verdicts (suc i) n
+
+abbrev pub asked : List ℕ → List ℕ → List Asked
+asked requests verdicts = askedFrom requests verdicts 0 (length requests / requestLen)
+
+-- the numbers of the requests so far, and those of them that passed
+pub record Batch : Type 0 where
+  pub numbers : List ℕ
+  pub passed : List Request
+
+abbrev pub noneJudged : Batch
+noneJudged = record { numbers = []; passed = [] }
+
+-- one request more: it has the number of its own table
+unfoldable pub judgeNext : State → Batch → Asked → Batch
+judgeNext st b a =
+    let number : ℕ = requestRefusal st (b .passed) (a .request) (a .verdict) in
+    record {
+      numbers = b .numbers ++ (number ∷ []);
+      passed = cond (eqb number 0) (b .passed ++ (a .request ∷ [])) (b .passed);
+    }
+
+-- "gives each request its own number"
+unfoldable pub judgedBatch : State → List Asked → Batch
+judgedBatch st requests = foldl (judgeNext st) noneJudged requests
 
 abbrev pub readRows : State → CounterId → List (Row ℕ)
 readRows st id =
@@ -203,17 +253,26 @@ started clock = record { clock = clock; records = []; log = [] }
 abbrev pub opened : State → Confirmation → State
 opened st c = record { clock = st .clock; records = st .records ++ (taken c ∷ []); log = st .log }
 
--- tick and increment: "Clock + 1 and the new entry are stored"
-abbrev pub raised : State → Carried → List ℕ → State
-raised st carried nonce =
-    let next : GlobalClock = globalClock (st .clock .0 + 1) in
-    record { clock = next; records = st .records; log = st .log ++ (entryOf next carried nonce ∷ []) }
+-- the entry of an increment that reached a reading: the module is given the digest of its requests
+abbrev pub entryOf : GlobalClock → List Request → Entry
+entryOf reading rs = record { reading = reading; nonce = digestOf rs; requests = rs }
 
--- increment also changes its counter's record
-abbrev pub incremented : State → List ℕ → CounterId → ℕ → State
-incremented st nonce id before =
-    let next : State = raised st (Carried.Request id before) nonce in
-    updatedState next id (raisedTo (next .clock))
+-- tick and increment: "Clock + 1 and the new entry are stored"
+abbrev pub raised : State → List Request → State
+raised st rs =
+    let next : GlobalClock = globalClock (st .clock .0 + 1) in
+    record { clock = next; records = st .records; log = st .log ++ (entryOf next rs ∷ []) }
+
+-- the records of the counters that some requests raise to a reading
+unfoldable pub raisedBy : List Request → GlobalClock → List Record → List Record
+raisedBy [] reading rs = rs
+raisedBy (q ∷ qs) reading rs = raisedBy qs reading (updated rs (q .id) (raisedTo reading))
+
+-- increment also changes the records of the counters that it raises
+abbrev pub incremented : State → List Request → State
+incremented st qs =
+    let next : State = raised st qs in
+    withRecords next (raisedBy qs (next .clock) (next .records))
 
 -- "A tick with no box held keeps no entry"
 abbrev pub noneHeld : State → Bool
@@ -222,8 +281,8 @@ noneHeld st = eqb (length (st .records)) 0
 abbrev pub advanced : State → State
 advanced st = record { clock = globalClock (st .clock .0 + 1); records = st .records; log = st .log }
 
-abbrev pub ticked : State → List ℕ → State
-ticked st nonce = cond (noneHeld st) (advanced st) (raised st Carried.Tick nonce)
+abbrev pub ticked : State → State
+ticked st = cond (noneHeld st) (advanced st) (raised st [])
 
 -- "Proving for one box alters no other box's figure"
 abbrev pub counted : State → CounterId → State
@@ -292,12 +351,29 @@ openCall s c verdict =
 abbrev pub tickCall : List ℕ → List ℕ → Settled
 tickCall s nonce =
     let st : State = decode s in
-    settled s (tickRefusal st nonce) (st .clock .0 + 1) (ticked st nonce)
+    settled s (tickRefusal st nonce) (st .clock .0 + 1) (ticked st)
 
-abbrev pub incrementCall : List ℕ → List ℕ → CounterId → ℕ → ℕ → Settled
-incrementCall s nonce id before verdict =
+-- what increment answers beside number and value: each request's number in its place, zeros behind the last, and all zeros where the batch is refused
+-- as a whole
+unfoldable pub numbersOf : List ℕ → List ℕ → List ℕ → List ℕ
+numbersOf s requests verdicts =
+    let numbers : List ℕ = cond (sound s && not (badBatch requests verdicts)) (judgedBatch (decode s) (asked requests verdicts) .numbers) [] in
+    numbers ++ replicate {A = ℕ} (maxRequests - length numbers) 0
+
+-- the call: it "increments only if some request passes (value the new clock, else 0)"
+unfoldable pub incrementCall : List ℕ → List ℕ → List ℕ → Settled
+incrementCall s requests verdicts =
     let st : State = decode s in
-    settled s (incrementRefusal st nonce id before verdict) (st .clock .0 + 1) (incremented st nonce id before)
+    let qs : List Request = judgedBatch st (asked requests verdicts) .passed in
+    cond (eqb (length qs) 0)
+    (record { figures = answered s (batchRefusal requests verdicts) 0; image = s })
+    (settled s (batchRefusal requests verdicts) (st .clock .0 + 1) (incremented st qs))
+
+-- the figures that it answers with
+abbrev pub incrementFigures : List ℕ → List ℕ → List ℕ → BatchFigures
+incrementFigures s requests verdicts =
+    let f : Figures = incrementCall s requests verdicts .figures in
+    record { number = f .number; value = f .value; numbers = numbersOf s requests verdicts }
 
 -- read writes nothing. Beside the value it gives "the count of the box's entries after that confirmation too", which is 0 where the value is
 abbrev pub readCall : List ℕ → CounterId → ReadFigures
@@ -313,13 +389,13 @@ readCall s id =
 abbrev pub proveCall : List ℕ → List ℕ → CounterId → ℕ → Settled
 proveCall s nonce id room =
     let st : State = decode s in
-    let len : ℕ = proofLen (shapeOf (proofOf st nonce id)) in
+    let len : ℕ = fieldsLen (proofOf st nonce id) in
     settled s (proveRefusal st nonce id len room) len (counted st id)
 
 abbrev pub lastCall : List ℕ → CounterId → GlobalClock → ℕ → Settled
 lastCall s id t room =
     let st : State = decode s in
-    let len : ℕ = proofLen (shapeOf (lastOf st id t)) in
+    let len : ℕ = fieldsLen (lastOf st id t) in
     settled s (lastRefusal st id t len room) len (counted st id)
 
 abbrev pub confirmCall : List ℕ → Confirmation → ℕ → Settled
@@ -338,7 +414,7 @@ closeCall s c verdict =
 -- a proof followed by the rest of the old output ("Bytes of the output beyond the proof stay"), or the old output where the call is refused
 unfoldable pub outputFor : Figures → Fields → List ℕ → List ℕ
 outputFor figures fields output =
-    cond (eqb (figures .number) 0) (proofBytes fields ++ drop (proofLen (shapeOf fields)) output) output
+    cond (eqb (figures .number) 0) (proofBytes fields ++ drop (fieldsLen fields) output) output
 
 abbrev pub proveOutput : List ℕ → List ℕ → CounterId → List ℕ → List ℕ
 proveOutput s nonce id output = outputFor (proveCall s nonce id (length output) .figures) (proofOf (decode s) nonce id) output

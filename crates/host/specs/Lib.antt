@@ -1,3 +1,6 @@
+pub mod Batch
+pub mod BatchEnds
+pub mod BatchLaws
 pub mod CloseLaws
 pub mod CloseStores
 pub mod ConfirmLaws
@@ -13,11 +16,13 @@ pub mod HeldLaws
 pub mod Host
 pub mod IncrementStores
 pub mod IndexLaws
+pub mod JudgedLaws
 pub mod LastLaws
 pub mod LogEndsLaws
 pub mod OpenLaws
 pub mod ProveLaws
 pub mod RaiseLaws
+pub mod RaisedLaws
 pub mod RecordOfLaws
 pub mod RecordStores
 pub mod RefusalLaws

@@ -14,11 +14,11 @@ use lib.Seq.{drop-nil}
 use borrow.Author.Tests.{eqb-true, ne-eqb, lt-ltb, le-ltb}
 use Rattle.forms.specs.Chain.{passes, chains, runningAfter, valueAfter, ownEntries}
 use Rattle.forms.specs.ChainLaws.{chains-cons, value-cons, follows-other, step-other}
+use Rattle.forms.specs.Entry.{Entry}
 use Rattle.forms.specs.TestsLaws.{both}
 use Rattle.forms.specs.Record.{taken}
-use Rattle.forms.specs.Terms.{sameId}
+use Rattle.forms.specs.Request.{names}
 use Rattle.forms.specs.declared.confirmation.Confirmation.{Confirmation}
-use Rattle.forms.specs.declared.entry.Entry.{Entry}
 use Rattle.forms.specs.declared.terms.CounterId.{CounterId}
 use Rattle.forms.specs.declared.terms.GlobalClock.{GlobalClock}
 use Rattle.log_image.specs.State.{State}
@@ -36,14 +36,14 @@ unnamed-chains c [] none = record { links = refl; end = refl }
 unnamed-chains c (e ∷ es) none =
     let id = c .id in
     let value = c .value in
-    let other = apart (sameId (e .id) id) refl none in
+    let other = apart (names id (e .requests)) refl none in
     let rest = unnamed-chains c es (omega (arith, none)) in
     record {
       links = chains-cons id value e es ∙ ap₂ _&&_ (follows-other id value e other) (ap (λ (v : ℕ). chains id v es) (step-other id value e other) ∙ rest .links);
       end = rest .end ∙ sym (value-cons id value e es ∙ ap (λ (v : ℕ). valueAfter id v es) (step-other id value e other));
     }
   where
-    apart : (b : Bool) → sameId (e .id) (c .id) ≡ b → cond b 1 0 + ownEntries (c .id) es ≡ 0 → sameId (e .id) (c .id) ≡ false
+    apart : (b : Bool) → names (c .id) (e .requests) ≡ b → cond b 1 0 + ownEntries (c .id) es ≡ 0 → names (c .id) (e .requests) ≡ false
     apart false other none = other
     apart true own none = let no : ⊥ = omega arith in absurd no
 
@@ -52,7 +52,7 @@ unnamed-chains c (e ∷ es) none =
 -- an entry with a reading later than one given names the counter
 unfoldable pub namedLater : CounterId → GlobalClock → List Entry → Bool
 namedLater id reading [] = false
-namedLater id reading (e ∷ es) = (sameId (e .id) id && ltb (reading .0) (e .reading .0)) || namedLater id reading es
+namedLater id reading (e ∷ es) = (names id (e .requests) && ltb (reading .0) (e .reading .0)) || namedLater id reading es
 
 -- the entries after a reading, where readings are consecutive, are those with a later one
 later-entries : (low : ℕ) (es : List Entry) (id : CounterId) (reading : GlobalClock) → consecutive low es ≡ true
@@ -66,13 +66,13 @@ later-entries low (e ∷ es) id reading steps =
     elim (decLe (reading .0) low) [ yes early ↦ here next early rest | no late ↦ there next late rest ]
   where
     here : e .reading .0 ≡ low + 1 → reading .0 ≤ low → not (eqb (ownEntries id (drop (reading .0 - (low + 1)) es)) 0) ≡ namedLater id reading es
-        → not (eqb (ownEntries id (drop (reading .0 - low) (e ∷ es))) 0) ≡ ((sameId (e .id) id && ltb (reading .0) (e .reading .0)) || namedLater id reading es)
+        → not (eqb (ownEntries id (drop (reading .0 - low) (e ∷ es))) 0) ≡ ((names id (e .requests) && ltb (reading .0) (e .reading .0)) || namedLater id reading es)
     here next early rest =
         let none : reading .0 - low ≡ 0 = omega arith in
         let none-next : 0 ≡ reading .0 - (low + 1) = omega arith in
         ap (λ (k : ℕ). not (eqb (ownEntries id (drop k (e ∷ es))) 0)) none
-        ∙ own (sameId (e .id) id)
-        ∙ ap₂ (λ (a b : Bool). (sameId (e .id) id && a) || b) (sym (lt-ltb (reading .0) (e .reading .0) (omega arith)))
+        ∙ own (names id (e .requests))
+        ∙ ap₂ (λ (a b : Bool). (names id (e .requests) && a) || b) (sym (lt-ltb (reading .0) (e .reading .0) (omega arith)))
         (ap (λ (k : ℕ). not (eqb (ownEntries id (drop k es)) 0)) none-next ∙ rest)
       where
         own : (b : Bool) → not (eqb (cond b 1 0 + ownEntries id es) 0) ≡ ((b && true) || not (eqb (ownEntries id es) 0))
@@ -80,13 +80,13 @@ later-entries low (e ∷ es) id reading steps =
         own false = ap (λ (n : ℕ). not (eqb n 0)) (zero-add (ownEntries id es))
 
     there : e .reading .0 ≡ low + 1 → (reading .0 ≤ low → ⊥) → not (eqb (ownEntries id (drop (reading .0 - (low + 1)) es)) 0) ≡ namedLater id reading es
-        → not (eqb (ownEntries id (drop (reading .0 - low) (e ∷ es))) 0) ≡ ((sameId (e .id) id && ltb (reading .0) (e .reading .0)) || namedLater id reading es)
+        → not (eqb (ownEntries id (drop (reading .0 - low) (e ∷ es))) 0) ≡ ((names id (e .requests) && ltb (reading .0) (e .reading .0)) || namedLater id reading es)
     there next late rest =
         let more : reading .0 - low ≡ suc (reading .0 - (low + 1)) = omega (arith, late) in
         ap (λ (k : ℕ). not (eqb (ownEntries id (drop k (e ∷ es))) 0)) more
         ∙ rest
-        ∙ sym (ap (λ (b : Bool). (sameId (e .id) id && b) || namedLater id reading es) (le-ltb (reading .0) (e .reading .0) (omega (arith, late)))
-        ∙ ap (λ (b : Bool). b || namedLater id reading es) (and-false (sameId (e .id) id)))
+        ∙ sym (ap (λ (b : Bool). (names id (e .requests) && b) || namedLater id reading es) (le-ltb (reading .0) (e .reading .0) (omega (arith, late)))
+        ∙ ap (λ (b : Bool). b || namedLater id reading es) (and-false (names id (e .requests))))
 
 -- so the row of 28 holds in a sound state where a held entry with a greater t than the given reading names the counter, and only there
 pub named-later : (st : State) (id : CounterId) (reading : GlobalClock) → soundState st ≡ true → namedAfter st id reading ≡ namedLater id reading (st .log)
@@ -101,7 +101,7 @@ opened-parts st c verdict s p =
       bounds = each-snoc (s .bounds) (record { low = p .low; past = p .past });
       span = omega (arith, same, s .span);
       steps = subst (λ (b : ℕ). consecutive b (st .log) ≡ true) same (s .steps);
-      names = s .names;
+      proper = s .proper;
       chain = subst (λ (b : ℕ). Each (Chained b (st .log)) (st .records ++ (taken c ∷ []))) same
           (each-snoc (s .chain) (unnamed-chains c (after (base st) (c .reading) (st .log)) (p .unnamed)));
     }

@@ -1,21 +1,24 @@
 -- What a call that is not refused has passed: number 0 means that no row's test holds. One record of it for each call that has rows and may
 -- write: all but start and read. Assumes nothing.
 use mathlib.Core.Path.{_≡_, refl, sym, ap, _∙_}
-use Prim.Native.Nat.{ℕ, _-_, _≤_}
+use Prim.Native.Nat.{ℕ, _+_, _-_, _≤_}
 use mathlib.Core.Bool.{Bool, true, false, not, cond, false≢true}
 use lib.Dec.{eqb, ltb}
 use mathlib.Core.List.{List}
 use lib.ListN.{length}
 use borrow.Author.Tests.{eqb-true, eqb-false, eq-eqb, ltb-false, not-false}
 use Rattle.forms.specs.Chain.{ownEntries}
-use Rattle.forms.specs.Limits.{largest, nonceLen, maxCounters, maxEntries}
+use Rattle.forms.specs.Entry.{units}
+use Rattle.forms.specs.Limits.{largest, nonceLen, maxCounters, maxUnits}
+use Rattle.forms.specs.Request.{names}
 use Rattle.forms.specs.declared.confirmation.Confirmation.{Confirmation}
+use Rattle.forms.specs.declared.request.Request.{Request}
 use Rattle.forms.specs.declared.terms.CounterId.{CounterId}
 use Rattle.forms.specs.declared.terms.GlobalClock.{GlobalClock}
 use Rattle.forms.specs.TestsLaws.{neither}
 use Rattle.log_image.specs.State.{State}
 use Rattle.log_image.specs.Sound.{holds, base, after}
-use Rattle.host.specs.Host.{heldOf, currentOf, valueAt, openRefusal, tickRefusal, incrementRefusal, confirmRefusal, closeRefusal, proveRefusal, lastRefusal, hasEntry, entriesOf}
+use Rattle.host.specs.Host.{heldOf, currentOf, valueAt, openRefusal, tickRefusal, requestRefusal, confirmRefusal, closeRefusal, proveRefusal, lastRefusal, hasEntry, entriesOf}
 
 -- where a table gives 0, a first row with another number was passed over, and the rest gives 0
 pub refusal-passed : (test : Bool) (number others : ℕ) → not (eqb number 0) ≡ true → cond test number others ≡ 0 → (test ≡ false) × (others ≡ 0)
@@ -60,7 +63,7 @@ open-passed st c verdict e =
 
 pub record TickPassed (st : State) (nonce : List ℕ) : Type 0 where
   pub long : length nonce ≡ nonceLen
-  pub room : length (st .log) ≡ maxEntries → ⊥
+  pub room : units (st .log) ≡ maxUnits → ⊥
   pub running : st .clock .0 ≡ largest → ⊥
 
 pub tick-passed : (st : State) (nonce : List ℕ) → tickRefusal st nonce ≡ 0 → TickPassed st nonce
@@ -70,38 +73,39 @@ tick-passed st nonce e =
     let d = refusal-passed _ 25 _ refl (b .1) in
     record {
       long = eqb-true (length nonce) nonceLen (not-false _ (a .0));
-      room = eqb-false (length (st .log)) maxEntries (b .0);
+      room = eqb-false (units (st .log)) maxUnits (b .0);
       running = eqb-false (st .clock .0) largest (d .0);
     }
 
--- ---- increment: 15, 16, 17, 22, 24, 25
+-- ---- one request of a batch: 15, 16, 17, 29, 22, 24, 25
 
-pub record IncrementPassed (st : State) (nonce : List ℕ) (id : CounterId) (before verdict : ℕ) : Type 0 where
+pub record RequestPassed (st : State) (before : List Request) (q : Request) (verdict : ℕ) : Type 0 where
   pub agreed : verdict ≡ 1
-  pub named : id .0 ≡ 0 → ⊥
-  pub long : length nonce ≡ nonceLen
-  pub held : holds (st .records) id ≡ true
-  pub current : before ≡ currentOf st id
-  pub room : length (st .log) ≡ maxEntries → ⊥
+  pub named : q .id .0 ≡ 0 → ⊥
+  pub held : holds (st .records) (q .id) ≡ true
+  pub alone : names (q .id) before ≡ false
+  pub current : q .before ≡ currentOf st (q .id)
+  pub room : units (st .log) + length before ≡ maxUnits → ⊥
   pub running : st .clock .0 ≡ largest → ⊥
 
-pub increment-passed : (st : State) (nonce : List ℕ) (id : CounterId) (before verdict : ℕ) → incrementRefusal st nonce id before verdict ≡ 0
-    → IncrementPassed st nonce id before verdict
-increment-passed st nonce id before verdict e =
+pub request-passed : (st : State) (before : List Request) (q : Request) (verdict : ℕ) → requestRefusal st before q verdict ≡ 0
+    → RequestPassed st before q verdict
+request-passed st before q verdict e =
     let a = refusal-passed _ 15 _ refl e in
     let b = refusal-passed _ 16 _ refl (a .1) in
     let d = refusal-passed _ 17 _ refl (b .1) in
-    let f = refusal-passed _ 22 _ refl (d .1) in
-    let g = refusal-passed _ 24 _ refl (f .1) in
-    let h = refusal-passed _ 25 _ refl (g .1) in
+    let f = refusal-passed _ 29 _ refl (d .1) in
+    let g = refusal-passed _ 22 _ refl (f .1) in
+    let h = refusal-passed _ 24 _ refl (g .1) in
+    let k = refusal-passed _ 25 _ refl (h .1) in
     record {
       agreed = eqb-true verdict 1 (not-false _ (a .0));
-      named = eqb-false (id .0) 0 (neither _ _ (b .0) .0);
-      long = eqb-true (length nonce) nonceLen (not-false _ (neither (eqb (id .0) 0) _ (b .0) .1));
+      named = eqb-false (q .id .0) 0 (b .0);
       held = not-false _ (d .0);
-      current = eqb-true before (currentOf st id) (not-false _ (f .0));
-      room = eqb-false (length (st .log)) maxEntries (g .0);
-      running = eqb-false (st .clock .0) largest (h .0);
+      alone = f .0;
+      current = eqb-true (q .before) (currentOf st (q .id)) (not-false _ (g .0));
+      room = eqb-false (units (st .log) + length before) maxUnits (h .0);
+      running = eqb-false (st .clock .0) largest (k .0);
     }
 
 -- ---- prove: 16, 17, 26

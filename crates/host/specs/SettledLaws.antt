@@ -7,7 +7,7 @@ use mathlib.Core.List.{List, _++_}
 use lib.Dec.{eqb}
 use borrow.Author.Tests.{eq-eqb, ne-eqb}
 use lib.ListN.{drop}
-use Rattle.validity.specs.Proof.{Fields, shapeOf, proofLen, encode as proofBytes}
+use Rattle.validity.specs.Proof.{Fields, fieldsLen, encode as proofBytes}
 use Rattle.log_image.specs.State.{State, encode}
 use Rattle.log_image.specs.Sound.{sound}
 use Rattle.host.specs.declared.answer.Figures.{Figures}
@@ -75,15 +75,15 @@ ends-done s number value next shown image e none same stored =
 
 -- the output of a call that writes a proof, and of one that is refused
 pub output-done : (figures : Figures) (fields : Fields) (output : List ℕ) → figures .number ≡ 0
-    → proofBytes fields ++ drop (proofLen (shapeOf fields)) output ≡ outputFor figures fields output
+    → proofBytes fields ++ drop (fieldsLen fields) output ≡ outputFor figures fields output
 unfolding outputFor
 output-done figures fields output none =
-    sym (ap (λ (b : Bool). cond b (proofBytes fields ++ drop (proofLen (shapeOf fields)) output) output) (eq-eqb (figures .number) 0 none))
+    sym (ap (λ (b : Bool). cond b (proofBytes fields ++ drop (fieldsLen fields) output) output) (eq-eqb (figures .number) 0 none))
 
 pub output-kept : (figures : Figures) (fields : Fields) (output : List ℕ) → (figures .number ≡ 0 → ⊥) → output ≡ outputFor figures fields output
 unfolding outputFor
 output-kept figures fields output some =
-    sym (ap (λ (b : Bool). cond b (proofBytes fields ++ drop (proofLen (shapeOf fields)) output) output) (ne-eqb (figures .number) 0 some))
+    sym (ap (λ (b : Bool). cond b (proofBytes fields ++ drop (fieldsLen fields) output) output) (ne-eqb (figures .number) 0 some))
 
 -- what the code of such a call shows at each of its three ends: figures, image and output
 abbrev WritesEnds : Settled → Fields → List ℕ → Figures → List ℕ → List ℕ → Type 0
@@ -102,7 +102,7 @@ writes-refused s number value next fields output refusal e same some =
     (shown .0, (shown .1, output-kept _ fields output (λ none. some (ap (λ (f : Figures). f .number) (shown .0) ∙ none))))
 
 pub writes-done : (s : List ℕ) (number value : ℕ) (next : State) (fields : Fields) (output : List ℕ) (len : ℕ) (image after : List ℕ) → sound s ≡ true → number ≡ 0 → len ≡ value
-    → image ≡ encode next → after ≡ proofBytes fields ++ drop (proofLen (shapeOf fields)) output
+    → image ≡ encode next → after ≡ proofBytes fields ++ drop (fieldsLen fields) output
     → WritesEnds (settled s number value next) fields output (record { number = 0; value = len }) image after
 writes-done s number value next fields output len image after e none same stored wrote =
     let shown = ends-done s number value next len image e none same stored in

@@ -12,3 +12,11 @@ pub struct ReadFigures {
     pub value: u32,
     pub openings: u32,
 }
+
+// What increment answers: that, and the number of each request of the batch in its place, zeros behind the last.
+#[repr(C)]
+pub struct BatchFigures {
+    pub number: u32,
+    pub value: u32,
+    pub numbers: [u32; 8],
+}

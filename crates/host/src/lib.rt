@@ -1,5 +1,6 @@
 // The host: keeps the log image. Document 01, "The host".
 pub mod answer;
+pub mod batch;
 mod change;
 pub mod close;
 pub mod confirm;

@@ -114,7 +114,7 @@ pub(crate) fn print_each(lent: usize, image: &mut [u8]) {
     print(b"tick 8 20 ", lent, image);
     print(b"inc 8 20 7 104 1 ", lent, image);
     print(b"read 7 ", lent, image);
-    print(b"prove 8 20 7 32828 ", lent, image);
-    print(b"last 7 104 32828 ", lent, image);
+    print(b"prove 8 20 7 57404 ", lent, image);
+    print(b"last 7 104 57404 ", lent, image);
     print(b"confirm 7 104 104 1 ", lent, image);
 }

@@ -3,16 +3,19 @@ use crate::many;
 use forms::bytes::byte_at;
 use forms::confirmation::Confirmation;
 use forms::nonce::LEN;
+use forms::number::put_u32;
+use forms::request::Request;
 use forms::terms::CounterId;
 use forms::terms::GlobalClock;
+use host::answer::BatchFigures;
 use host::answer::Figures;
 use host::answer::ReadFigures;
+use host::batch::increment;
 use host::close::close;
 use host::confirm::confirm;
 use host::last::last;
 use host::open::open;
 use host::prove::prove;
-use host::raise::increment;
 use host::raise::tick;
 use host::read::read;
 use host::start::start;
@@ -24,8 +27,10 @@ use text::part::least;
 
 const FIGURES: usize = 5;
 
-// Room for a nonce that is one byte too long.
+// Room for a nonce that is one byte too long, and for a request with one.
 const NONCE_ROOM: usize = LEN + 1;
+
+const REQUEST_ROOM: usize = Request::LEN + 1;
 
 // The letter of a line's word, and its figures in order, 0 where there is none.
 pub struct Call {
@@ -78,10 +83,26 @@ fn ticked(image: &mut [u8], call: Call) -> Figures {
     tick(image, front(&nonce, call.second as usize))
 }
 
+// A batch of one, whose bytes are no request where the nonce has another length: its own number, or that of a batch refused as a whole.
 fn incremented(image: &mut [u8], call: Call) -> Figures {
-    let nonce = [(call.first % 256) as u8; NONCE_ROOM];
-    let lent = front(&nonce, call.second as usize);
-    increment(image, lent, CounterId(call.third), call.fourth, call.fifth)
+    let len = least(call.second as usize, NONCE_ROOM);
+    let mut request = [(call.first % 256) as u8; REQUEST_ROOM];
+    put_u32(&mut request, len, call.third);
+    put_u32(&mut request, len + 4, call.fourth);
+    let verdict = [(call.fifth % 256) as u8];
+    of_one(increment(image, front(&request, len + 8), &verdict))
+}
+
+pub(crate) fn of_one(shown: BatchFigures) -> Figures {
+    let numbers = shown.numbers;
+    Figures {
+        number: if shown.number == 0 {
+            numbers[0]
+        } else {
+            shown.number
+        },
+        value: shown.value,
+    }
 }
 
 fn proved(image: &mut [u8], call: Call, out: &mut [u8]) -> Figures {

@@ -2,14 +2,16 @@
 // counters from an id on, all at one reading. `around count`: increments of the counters 1 to 64 in turn, the nonce bytes
 // counting from 0.
 use crate::call::Call;
+use crate::call::of_one;
 use forms::confirmation::Confirmation;
 use forms::image::Image;
 use forms::nonce::LEN;
+use forms::request::Request;
 use forms::terms::CounterId;
 use forms::terms::GlobalClock;
 use host::answer::Figures;
+use host::batch::increment;
 use host::open::open;
-use host::raise::increment;
 use host::raise::tick;
 use host::read::read;
 
@@ -34,8 +36,10 @@ fn opened(image: &mut [u8], id: u32, reading: u32) -> Figures {
 fn incremented(image: &mut [u8], place: u32) -> Figures {
     let id = CounterId(1 + place % Image::MAX_COUNTERS);
     let before = read(image, id).value;
-    let nonce = [(place % 256) as u8; LEN];
-    increment(image, &nonce, id, before, 1)
+    let mut request = [0u8; Request::LEN];
+    Request::new([(place % 256) as u8; LEN], id, before).write(&mut request, 0);
+    let verdict = [1u8];
+    of_one(increment(image, &request, &verdict))
 }
 
 fn one(image: &mut [u8], call: Call, place: u32) -> Figures {

@@ -1,11 +1,15 @@
 // The table of cases. A line with a call (call.rt) has an equals sign and what is expected, worked out by hand, which this program leaves
 // alone; `each` stands for every call but start. The other lines are printed as they are: a label behind `#`; an empty line; `byte place
-// number` and `word place number`, which change one and four bytes of the image; `keep` and `undo`, which keep a copy of the image and
-// bring it back; and `give length`, from which on so many bytes of the image's buffer are lent.
+// number` and `word place number`, which change one and four bytes of the image; `digest place`, which gives the entry there the digest of its
+// requests as they stand; `keep` and `undo`, which keep a copy of the image and bring it back; and `give length`, from which on so many bytes
+// of the image's buffer are lent.
 use crate::answer;
 use crate::call::Call;
+use digest::sha1::sha1;
 use forms::bytes::byte_at;
 use forms::bytes::put;
+use forms::entry::Head;
+use forms::entry::entry_len;
 use forms::image::Image;
 use forms::number::put_u32;
 use text::line::put_words;
@@ -14,6 +18,16 @@ use text::part::find;
 
 fn put_byte(image: &mut [u8], at: u32, byte: u32) {
     put(image, at as usize, &[(byte % 256) as u8]);
+}
+
+// Gives the entry at a place the digest of its requests as they stand.
+fn seal(image: &mut [u8], at: usize) {
+    if image.len() <= at {
+        return;
+    }
+    let end = at + entry_len(Head::count_at(image, at));
+    let nonce = sha1(between(image, at + Head::LEN, end));
+    put(image, at + Head::NONCE, &nonce);
 }
 
 fn is_call(word: u8) -> bool {
@@ -28,6 +42,7 @@ fn edit(call: Call, image: &mut [u8], kept: &mut [u8]) {
     match word {
         b'b' => put_byte(image, call.first, call.second),
         b'w' => put_u32(image, call.first as usize, call.second),
+        b'd' => seal(image, call.first as usize),
         b'k' => put(kept, 0, image),
         b'u' => put(image, 0, kept),
         _ => (),

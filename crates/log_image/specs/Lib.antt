@@ -1,4 +1,5 @@
 pub mod DecodeLaws
+pub mod EndLaws
 pub mod FitLaws
 pub mod FrameLaws
 pub mod HintLaws

@@ -1,11 +1,13 @@
--- The validity proof's form: document 01, "Proof form". What bytes read as, what is written from fields, and the numbers of the refusals.
+-- The validity proof's form: document 01, "Proof form", with the entries of document 02's Note 7. What bytes read as, what is written from fields, and
+-- the numbers of the refusals.
 -- Assumes nothing.
-use Prim.Native.Nat.{ℕ, _+_, _*_}
+use Prim.Native.Nat.{ℕ, _+_}
 use mathlib.Core.Bool.{Bool, false, cond, not, _&&_, _||_}
 use mathlib.Core.List.{List, [], _∷_, _++_}
 use lib.Dec.{eqb, ltb}
 use lib.ListN.{length, drop}
-use Rattle.forms.specs.Limits.{confirmationLen, certificateLen, entryLen, maxEntries, proofForm, proofHeaderLen}
+use Rattle.forms.specs.Limits.{confirmationLen, certificateLen, maxUnits, proofForm, proofHeaderLen}
+use Rattle.forms.specs.Log.{endsAt, overfull, walk}
 use Rattle.forms.specs.Number.{be16, be32, digits}
 use Rattle.forms.specs.Checks.{_gives_, firstOf}
 use Rattle.forms.specs.Confirmation.{confirmationAt, confirmationBytes}
@@ -45,13 +47,9 @@ abbrev pub logOffset : Kind → ℕ
 logOffset Kind.Read = confirmationOffset + confirmationLen + certificateLen
 logOffset Kind.Increment = confirmationOffset + confirmationLen
 
--- "Length is log offset + 32 × n"
-abbrev pub proofLen : Proof → ℕ
-proofLen p = logOffset (p .kind) + entryLen * p .count
-
 -- ---- reading
 
--- check 3: form 1, and kind 1 or 2
+-- check 3: form 2, and kind 1 or 2
 abbrev pub knownForm : List ℕ → Bool
 knownForm s = eqb (be16 s 0) proofForm && knownKind (be16 s 2)
 
@@ -66,13 +64,17 @@ nothingRaised Kind.Increment n = eqb n 0
 
 -- check 4: n over 1,024, or n = 0 in kind 2
 abbrev pub miscounted : Proof → Bool
-miscounted p = ltb maxEntries (p .count) || nothingRaised (p .kind) (p .count)
+miscounted p = ltb maxUnits (p .count) || nothingRaised (p .kind) (p .count)
 
--- check 5: the bytes lent, the whole length and the three offsets are those of the kind and the count
+-- check 4: "more than that or a count over 8", in the entries that begin at a place of some bytes
+abbrev pub overcounted : List ℕ → ℕ → ℕ → Bool
+overcounted s log n = overfull (walk s log n)
+
+-- check 5: the bytes lent end with the n-th entry, and the whole length and the three offsets are theirs and the kind's
 abbrev pub laidOut : List ℕ → Proof → Bool
 laidOut s p =
-    eqb (length s) (proofLen p)
-    && (eqb (be32 s 4) (proofLen p)
+    endsAt (walk s (logOffset (p .kind)) (p .count)) (length s)
+    && (eqb (be32 s 4) (length s)
     && (eqb (be32 s 8) confirmationOffset
     && (eqb (be32 s 12) (certificateOffset (p .kind))
     && eqb (be32 s 16) (logOffset (p .kind)))))
@@ -84,6 +86,7 @@ parsed s =
     ((ltb (length s) proofHeaderLen gives Parsed.TooShort)
     ∷ (not (knownForm s) gives Parsed.UnknownForm)
     ∷ (miscounted (shapeAt s) gives Parsed.BadCount)
+    ∷ (overcounted s (logOffset (shapeAt s .kind)) (shapeAt s .count) gives Parsed.BadCount)
     ∷ (not (laidOut s (shapeAt s)) gives Parsed.BadLayout)
     ∷ [])
     (Parsed.Proof (shapeAt s))
@@ -112,6 +115,11 @@ abbrev pub shapeOf : Fields → Proof
 shapeOf (read confirmation certificate count entries) = record { kind = Kind.Read; count = count }
 shapeOf (increment confirmation count entries) = record { kind = Kind.Increment; count = count }
 
+-- how long the proof of some fields is
+abbrev pub fieldsLen : Fields → ℕ
+fieldsLen (read confirmation certificate count entries) = logOffset Kind.Read + length entries
+fieldsLen (increment confirmation count entries) = logOffset Kind.Increment + length entries
+
 -- the header's 24 bytes, from the numbers in it
 unfoldable pub headerOf : ℕ → ℕ → ℕ → ℕ → ℕ → List ℕ
 headerOf kind len certificate log count =
@@ -123,15 +131,20 @@ headerOf kind len certificate log count =
     ++ digits 4 log
     ++ digits 4 count
 
-unfoldable pub headerBytes : Proof → List ℕ
-headerBytes p = headerOf (kindNumber (p .kind)) (proofLen p) (certificateOffset (p .kind)) (logOffset (p .kind)) (p .count)
+unfoldable pub headerBytes : Proof → ℕ → List ℕ
+headerBytes p len = headerOf (kindNumber (p .kind)) len (certificateOffset (p .kind)) (logOffset (p .kind)) (p .count)
 
 -- the bytes written from fields
 unfoldable pub encode : Fields → List ℕ
 encode (read confirmation certificate count entries) =
-    headerBytes (record { kind = Kind.Read; count = count }) ++ confirmationBytes confirmation ++ certificateBytes certificate ++ entries
+    headerBytes (record { kind = Kind.Read; count = count }) (logOffset Kind.Read + length entries)
+    ++ confirmationBytes confirmation
+    ++ certificateBytes certificate
+    ++ entries
 encode (increment confirmation count entries) =
-    headerBytes (record { kind = Kind.Increment; count = count }) ++ confirmationBytes confirmation ++ entries
+    headerBytes (record { kind = Kind.Increment; count = count }) (logOffset Kind.Increment + length entries)
+    ++ confirmationBytes confirmation
+    ++ entries
 
 -- the fields that bytes read as
 unfoldable pub decode : List ℕ → Fields
@@ -145,13 +158,15 @@ decode s =
 unfoldable pub written : ℕ → ℕ → List ℕ → ℕ → Written
 written kind count entries room =
     let p : Proof = record { kind = kindOf kind; count = count } in
+    let len : ℕ = logOffset (kindOf kind) + length entries in
     firstOf
     ((not (knownKind kind) gives Written.UnknownKind)
     ∷ (miscounted p gives Written.BadCount)
-    ∷ (not (eqb (length entries) (entryLen * count)) gives Written.BadEntries)
-    ∷ (ltb room (proofLen p) gives Written.NoRoom)
+    ∷ (overcounted entries 0 count gives Written.BadCount)
+    ∷ (not (endsAt (walk entries 0 count) (length entries)) gives Written.BadEntries)
+    ∷ (ltb room len gives Written.NoRoom)
     ∷ [])
-    (Written.Length (proofLen p))
+    (Written.Length len)
 
 -- document 01's number and value for each answer of writing
 abbrev pub writeNumber : Written → ℕ

@@ -1,7 +1,7 @@
 -- Reading and writing a validity proof are inverse to each other: demand 2, "A proof written from fields reads as those fields, and bytes that
 -- read as a proof are the only ones so written". Assumes nothing.
 use mathlib.Core.Path.{_≡_, refl, sym, ap, ap₂, _∙_, subst}
-use Prim.Native.Nat.{ℕ, _+_, _*_, _≤_}
+use Prim.Native.Nat.{ℕ, _+_, _≤_}
 use native.Mathlib.Omega.{arith}
 use mathlib.Core.Bool.{Bool, true, false, not, cond, _||_}
 use mathlib.Core.List.{List, [], _++_}
@@ -11,7 +11,10 @@ use lib.Dec.{eqb, ltb}
 use borrow.Author.Tests.{le-ltb, eqb-true, ne-eqb, not-false}
 use Rattle.forms.specs.Bytes.{Bytes, window}
 use Rattle.forms.specs.BytesLaws.{window-part, window-append, length-window}
-use Rattle.forms.specs.Limits.{nonceLen, entryLen, maxEntries, proofForm}
+use Rattle.forms.specs.EntryLaws.{offset-grows}
+use Rattle.forms.specs.Limits.{nonceLen, maxUnits, proofForm}
+use Rattle.forms.specs.Log.{endsAt, walk}
+use Rattle.forms.specs.LogLaws.{ends-drop, ends-offset}
 use Rattle.forms.specs.Number.{be16, be32, digits}
 use Rattle.forms.specs.NumberLaws.{bigEndian-digits, bigEndian-bound, digits-bigEndian}
 use Rattle.forms.specs.Terms.{counterId, globalClock}
@@ -21,15 +24,16 @@ use Rattle.forms.specs.Certificate.{certificateAt, certificateBytes}
 use Rattle.forms.specs.declared.certificate.Certificate.{Certificate}
 use Rattle.forms.specs.PartsLaws.{ConfirmationFits, CertificateFits, confirmation-window, certificate-window}
 use Rattle.forms.specs.TestsLaws.{both}
-use Rattle.validity.specs.Proof.{Kind, Proof, Parsed, kindNumber, kindOf, knownKind, knownForm, shapeAt, miscounted, proofLen, logOffset, parsed, readNumber, Written, written, writeNumber}
-use Rattle.validity.specs.ProofLaws.{LaidOut, Reads, reads-parsed, parsed-reads, count-bound, count-some}
+use Rattle.validity.specs.Proof.{Kind, Proof, Parsed, kindNumber, kindOf, knownKind, knownForm, shapeAt, miscounted, overcounted, logOffset, parsed, readNumber, Written, written, writeNumber}
+use Rattle.validity.specs.ProofLaws.{LaidOut, Reads, reads-parsed, parsed-reads, count-bound, count-some, proofLen-bound}
 use Rattle.validity.specs.Proof.{Fields, read, increment, shapeOf, headerOf, headerBytes, encode, decode, fieldsOf}
 
--- the fields that writing takes: numbers of 32 bits, nonces of twenty bytes, a count within the limits, and exactly as many entries
+-- the fields that writing takes: numbers of 32 bits, nonces of twenty bytes, a count within the limits, and bytes that are
+-- exactly as many entries
 pub record Taken (confirmation : Confirmation) (count : ℕ) (entries : List ℕ) : Type 0 where
   pub fits : ConfirmationFits confirmation
-  pub few : count ≤ maxEntries
-  pub whole : length entries ≡ entryLen * count
+  pub few : count ≤ maxUnits
+  pub whole : endsAt (walk entries 0 count) (length entries) ≡ true
 
 abbrev pub Takes : Fields → Type 0
 Takes (read confirmation certificate count entries) = Taken confirmation count entries × CertificateFits certificate
@@ -41,25 +45,25 @@ pub written-taken : (kind : ℕ) (confirmation : Confirmation) (certificate : Ce
     → Takes (fieldsOf (kindOf kind) confirmation certificate count entries)
 unfolding written
 written-taken kind confirmation certificate count entries room cf kf e =
-    go (not (knownKind kind)) (not (eqb (length entries) (entryLen * count))) (ltb room (proofLen (record { kind = kindOf kind; count = count }))) (kindOf kind)
-    (miscounted (record { kind = kindOf kind; count = count })) refl refl e
+    go (not (knownKind kind)) (overcounted entries 0 count) (not (endsAt (walk entries 0 count) (length entries)))
+    (ltb room (logOffset (kindOf kind) + length entries)) (kindOf kind) (miscounted (record { kind = kindOf kind; count = count })) refl refl e
   where
-    exact : not (eqb (length entries) (entryLen * count)) ≡ false → length entries ≡ entryLen * count
-    exact n = eqb-true (length entries) (entryLen * count) (not-false (eqb (length entries) (entryLen * count)) n)
-
-    given : (k : Kind) → miscounted (record { kind = k; count = count }) ≡ false → length entries ≡ entryLen * count
+    given : (k : Kind) → miscounted (record { kind = k; count = count }) ≡ false → endsAt (walk entries 0 count) (length entries) ≡ true
         → Takes (fieldsOf k confirmation certificate count entries)
     given Kind.Read m w = (record { fits = cf; few = count-bound (record { kind = Kind.Read; count = count }) m; whole = w }, kf)
     given Kind.Increment m w = (record { fits = cf; few = count-bound (record { kind = Kind.Increment; count = count }) m; whole = w }, count-some count m)
 
-    go : (a c d : Bool) (k : Kind) (b : Bool) → miscounted (record { kind = k; count = count }) ≡ b → not (eqb (length entries) (entryLen * count)) ≡ c
-        → writeNumber (cond a Written.UnknownKind (cond b Written.BadCount (cond c Written.BadEntries (cond d Written.NoRoom (Written.Length (proofLen (record { kind = k; count = count }))))))) ≡ 0
+    go : (a o c d : Bool) (k : Kind) (b : Bool) → miscounted (record { kind = k; count = count }) ≡ b
+        → not (endsAt (walk entries 0 count) (length entries)) ≡ c
+        → writeNumber (cond a Written.UnknownKind (cond b Written.BadCount (cond o Written.BadCount (cond c Written.BadEntries (cond d Written.NoRoom
+        (Written.Length (logOffset k + length entries))))))) ≡ 0
         → Takes (fieldsOf k confirmation certificate count entries)
-    go true c d k b m w z = let no : ⊥ = omega arith in absurd no
-    go false c d k true m w z = let no : ⊥ = omega arith in absurd no
-    go false true d k false m w z = let no : ⊥ = omega arith in absurd no
-    go false false true k false m w z = let no : ⊥ = omega arith in absurd no
-    go false false false k false m w z = given k m (exact w)
+    go true o c d k b m w z = let no : ⊥ = omega arith in absurd no
+    go false o c d k true m w z = let no : ⊥ = omega arith in absurd no
+    go false true c d k false m w z = let no : ⊥ = omega arith in absurd no
+    go false false true d k false m w z = let no : ⊥ = omega arith in absurd no
+    go false false false true k false m w z = let no : ⊥ = omega arith in absurd no
+    go false false false false k false m w z = given k m (not-false _ w)
 
 -- ---- what is written reads as it was given
 
@@ -107,22 +111,30 @@ encode-injective f g tf tg e = sym (decode-encode f tf) ∙ ap decode e ∙ deco
 
 -- ---- what is written reads as a proof
 
+-- the walk over entries that stand behind other bytes ends with these
+ends-behind : (s entries : List ℕ) (log count : ℕ) → drop log s ≡ entries → log ≤ length s → endsAt (walk entries 0 count) (length entries) ≡ true
+    → endsAt (walk s log count) (length s) ≡ true
+ends-behind s entries log count e h whole =
+    sym (ends-drop s log count h) ∙ ap (λ (l : List ℕ). endsAt (walk l 0 count) (length l)) e ∙ whole
+
 read-reads : (confirmation : Confirmation) (certificate : Certificate) (count : ℕ) (entries : List ℕ)
     → Taken confirmation count entries → CertificateFits certificate
     → parsed (encode (read confirmation certificate count entries)) ≡ Parsed.Proof (record { kind = Kind.Read; count = count })
 unfolding encode headerOf headerBytes confirmationBytes certificateBytes
 read-reads confirmation certificate count entries taken fits =
     let s = encode (read confirmation certificate count entries) in
-    let long : length s ≡ 60 + entryLen * count = simp length-append (omega (arith, fits .nonce, taken .whole)) in
+    let long : length s ≡ 60 + length entries = simp length-append (omega (arith, fits .nonce)) in
+    let short = proofLen-bound Kind.Read count entries (taken .whole) in
     let counted : be32 s 20 ≡ count = bigEndian-digits 4 count [] (omega (arith, taken .few)) in
     let shape : shapeAt s ≡ record { kind = Kind.Read; count = count } = λ i. record { kind = Kind.Read; count = counted i } in
+    let behind : drop 60 s ≡ entries = drop-at (certificate .nonce) entries nonceLen (fits .nonce) in
     reads-parsed s (record {
       header = omega arith;
       known = refl;
-      counted = ap miscounted shape ∙ ap (λ (b : Bool). b || false) (le-ltb maxEntries count (taken .few));
+      counted = ap miscounted shape ∙ ap (λ (b : Bool). b || false) (le-ltb maxUnits count (taken .few));
       laid = subst (LaidOut s) (sym shape) (record {
-        lent = long;
-        whole = bigEndian-digits 4 (60 + entryLen * count) [] (omega (arith, taken .few));
+        lent = ends-behind s entries 60 count behind (omega arith) (taken .whole);
+        whole = bigEndian-digits 4 (60 + length entries) [] (omega arith) ∙ sym long;
         confirmation = refl;
         certificate = refl;
         log = refl;
@@ -136,16 +148,17 @@ increment-reads : (confirmation : Confirmation) (count : ℕ) (entries : List �
 unfolding encode headerOf headerBytes confirmationBytes
 increment-reads confirmation count entries taken some =
     let s = encode (increment confirmation count entries) in
-    let long : length s ≡ 36 + entryLen * count = omega (arith, taken .whole) in
+    let long : length s ≡ 36 + length entries = omega arith in
+    let short = proofLen-bound Kind.Increment count entries (taken .whole) in
     let counted : be32 s 20 ≡ count = bigEndian-digits 4 count [] (omega (arith, taken .few)) in
     let shape : shapeAt s ≡ record { kind = Kind.Increment; count = count } = λ i. record { kind = Kind.Increment; count = counted i } in
     reads-parsed s (record {
       header = omega arith;
       known = refl;
-      counted = ap miscounted shape ∙ ap₂ _||_ (le-ltb maxEntries count (taken .few)) (ne-eqb count 0 (λ e. omega arith));
+      counted = ap miscounted shape ∙ ap₂ _||_ (le-ltb maxUnits count (taken .few)) (ne-eqb count 0 (λ e. omega arith));
       laid = subst (LaidOut s) (sym shape) (record {
-        lent = long;
-        whole = bigEndian-digits 4 (36 + entryLen * count) [] (omega (arith, taken .few));
+        lent = ends-behind s entries 36 count refl (omega arith) (taken .whole);
+        whole = bigEndian-digits 4 (36 + length entries) [] (omega arith) ∙ sym long;
         confirmation = refl;
         certificate = refl;
         log = refl;
@@ -173,7 +186,7 @@ both-known s e =
     (eqb-true (be16 s 0) proofForm (parts .0), parts .1)
 
 -- the header of bytes that read as a proof
-header-window : (s : List ℕ) → Bytes s → Reads s → headerBytes (shapeAt s) ≡ window s 0 24
+header-window : (s : List ℕ) → Bytes s → Reads s → headerBytes (shapeAt s) (length s) ≡ window s 0 24
 unfolding headerOf headerBytes
 header-window s b r =
     let known = both-known s (r .known) in
@@ -200,48 +213,57 @@ header-window s b r =
 
 -- the parts that bytes read as, written one behind the other, are the bytes
 encode-parts : (kind : Kind) (count : ℕ) (s : List ℕ) → Bytes s → logOffset kind ≤ length s
-    → headerBytes (record { kind = kind; count = count }) ≡ window s 0 24
+    → headerBytes (record { kind = kind; count = count }) (length s) ≡ window s 0 24
     → encode (fieldsOf kind (confirmationAt s 24) (certificateAt s 36) count (drop (logOffset kind) s)) ≡ s
 unfolding encode
 encode-parts Kind.Read count s b long header =
+    let all : 60 + length (drop 60 s) ≡ length s = ap (λ (n : ℕ). 60 + n) (length-drop 60 s) ∙ (omega arith) in
     ap (λ (front : List ℕ). front ++ drop 60 s)
     (ap₂ (λ (front back : List ℕ). front ++ back)
-    (ap₂ (λ (front back : List ℕ). front ++ back) header (confirmation-window s 24 b) ∙ sym (window-append s 0 24 12))
+    (ap₂ (λ (front back : List ℕ). front ++ back) (ap (headerBytes (record { kind = Kind.Read; count = count })) all ∙ header) (confirmation-window s 24 b)
+    ∙ sym (window-append s 0 24 12))
     (certificate-window s 36 b)
     ∙ sym (window-append s 0 36 24)
     ∙ window-part s 0 60 long)
     ∙ take-append-drop 60 s
 encode-parts Kind.Increment count s b long header =
+    let all : 36 + length (drop 36 s) ≡ length s = ap (λ (n : ℕ). 36 + n) (length-drop 36 s) ∙ (omega arith) in
     ap (λ (front : List ℕ). front ++ drop 36 s)
-    (ap₂ (λ (front back : List ℕ). front ++ back) header (confirmation-window s 24 b)
+    (ap₂ (λ (front back : List ℕ). front ++ back) (ap (headerBytes (record { kind = Kind.Increment; count = count })) all ∙ header) (confirmation-window s 24 b)
     ∙ sym (window-append s 0 24 12)
     ∙ window-part s 0 36 long)
     ∙ take-append-drop 36 s
+
+-- the entries begin within the bytes
+log-within : (s : List ℕ) → Reads s → logOffset (shapeAt s .kind) ≤ length s
+log-within s r =
+    let p = shapeAt s in
+    omega (arith, ends-offset s (logOffset (p .kind)) (p .count) (length s) (r .laid .lent) .1, offset-grows s (logOffset (p .kind)) (p .count))
 
 -- bytes that read as a proof are the bytes written from the fields that they read as
 pub encode-decode : (s : List ℕ) → Bytes s → readNumber (parsed s) ≡ 0 → encode (decode s) ≡ s
 unfolding decode
 encode-decode s b e =
     let r = parsed-reads s e in
-    encode-parts (kindOf (be16 s 2)) (be32 s 20) s b (omega (arith, r .laid .lent)) (header-window s b r)
+    encode-parts (kindOf (be16 s 2)) (be32 s 20) s b (log-within s r) (header-window s b r)
 
 taken-parts : (kind : Kind) (count : ℕ) (s : List ℕ) → Bytes s → miscounted (record { kind = kind; count = count }) ≡ false
-    → length s ≡ proofLen (record { kind = kind; count = count })
+    → endsAt (walk (drop (logOffset kind) s) 0 count) (length (drop (logOffset kind) s)) ≡ true
     → Takes (fieldsOf kind (confirmationAt s 24) (certificateAt s 36) count (drop (logOffset kind) s))
 unfolding confirmationAt certificateAt
-taken-parts Kind.Read count s b counted long = (
+taken-parts Kind.Read count s b counted ends = (
   record {
     fits = record { id = bigEndian-bound 4 s 24 b; value = bigEndian-bound 4 s 28 b; reading = bigEndian-bound 4 s 32 b };
     few = count-bound (record { kind = Kind.Read; count = count }) counted;
-    whole = length-drop 60 s ∙ (omega arith);
+    whole = ends;
   },
   record { reading = bigEndian-bound 4 s 36 b; nonce = length-window s 40 nonceLen },
 )
-taken-parts Kind.Increment count s b counted long = (
+taken-parts Kind.Increment count s b counted ends = (
   record {
     fits = record { id = bigEndian-bound 4 s 24 b; value = bigEndian-bound 4 s 28 b; reading = bigEndian-bound 4 s 32 b };
     few = count-bound (record { kind = Kind.Increment; count = count }) counted;
-    whole = length-drop 36 s ∙ (omega arith);
+    whole = ends;
   },
   count-some count counted,
 )
@@ -251,4 +273,5 @@ pub decode-taken : (s : List ℕ) → Bytes s → readNumber (parsed s) ≡ 0 �
 unfolding decode
 decode-taken s b e =
     let r = parsed-reads s e in
-    taken-parts (kindOf (be16 s 2)) (be32 s 20) s b (r .counted) (r .laid .lent)
+    taken-parts (kindOf (be16 s 2)) (be32 s 20) s b (r .counted)
+    (ends-drop s (logOffset (shapeAt s .kind)) (be32 s 20) (log-within s r) ∙ r .laid .lent)

@@ -2,14 +2,15 @@
 use forms::confirmation::Confirmation;
 use forms::terms::CounterId;
 use forms::terms::GlobalClock;
+use host::answer::BatchFigures;
 use host::answer::Figures;
 use host::answer::ReadFigures;
+use host::batch::increment;
 use host::close::close;
 use host::confirm::confirm;
 use host::last::last;
 use host::open::open;
 use host::prove::prove;
-use host::raise::increment;
 use host::raise::tick;
 use host::read::read;
 use host::start::start;
@@ -17,7 +18,7 @@ ghost use mathlib.Core.Path.{_≡_};
 ghost use lib.ListN.{length};
 ghost use Rattle.forms.specs.Confirmation.{confirmationOf};
 ghost use Rattle.forms.specs.Terms.{counterId, globalClock};
-ghost use Rattle.host.specs.Host.{closeCall, confirmCall, incrementCall, lastCall, lastOutput, openCall, proveCall, proveOutput, readCall, startCall, tickCall};
+ghost use Rattle.host.specs.Host.{closeCall, confirmCall, incrementCall, incrementFigures, lastCall, lastOutput, openCall, proveCall, proveOutput, readCall, startCall, tickCall};
 
 #[no_mangle]
 pub extern "C" fn vmc_host_start(image: &mut [u8], clock: u32) -> Figures
@@ -53,15 +54,13 @@ pub extern "C" fn vmc_host_tick(image: &mut [u8], nonce: &[u8]) -> Figures
 #[no_mangle]
 pub extern "C" fn vmc_host_increment(
     image: &mut [u8],
-    nonce: &[u8],
-    id: u32,
-    before: u32,
-    verdict: u32,
-) -> Figures
-    ensures { λ r. ⌜ r ≡ incrementCall (now (image .entry)) (now (nonce .entry)) (counterId id) before verdict .figures ⌝ }
-    ensures { λ _. ⌜ now (image .exit) ≡ incrementCall (now (image .entry)) (now (nonce .entry)) (counterId id) before verdict .image ⌝ }
+    requests: &[u8],
+    verdicts: &[u8],
+) -> BatchFigures
+    ensures { λ r. ⌜ r ≡ incrementFigures (now (image .entry)) (now (requests .entry)) (now (verdicts .entry)) ⌝ }
+    ensures { λ _. ⌜ now (image .exit) ≡ incrementCall (now (image .entry)) (now (requests .entry)) (now (verdicts .entry)) .image ⌝ }
 {
-    increment(image, nonce, CounterId(id), before, verdict)
+    increment(image, requests, verdicts)
 }
 
 #[no_mangle]

@@ -1,74 +1,92 @@
 -- `console::judge::nonce_among` meets its contract: no entry passed is the one looked for. Assumes nothing.
-use mathlib.Core.Path.{_≡_, sym, ap, ap₂, _∙_}
-use mathlib.Core.Bool.{Bool, false, _&&_}
+use mathlib.Core.Path.{_≡_, sym, ap, subst, _∙_}
 use mathlib.Core.List.{List}
 use mathlib.Core.Logic.{⊎-elim}
-use Prim.Native.Nat.{ℕ, _+_, _*_, _≤_}
+use Prim.Native.Nat.{ℕ, _+_, _-_, _≤_, _<_}
 use native.Mathlib.Omega.{arith}
 use borrow.Author.Needs.{needs}
-use borrow.Author.Tests.{eq-eqb, ne-eqb}
-use lib.Dec.{eqb}
-use Rattle.forms.specs.Entry.{entryAt, entriesAt}
-use Rattle.forms.specs.Limits.{entryLen, imageLogOffset}
-use Rattle.forms.specs.declared.terms.CounterId.{CounterId}
+use Rattle.forms.specs.Entry.{countAt, lenOf, lenAt, entriesAt, offsetAt}
+use Rattle.forms.specs.Limits.{headLen, imageLogOffset, imageLen, maxRequests}
+use Rattle.forms.specs.Request.{placeOf, requestsAt}
 use Rattle.forms.specs.declared.terms.GlobalClock.{GlobalClock}
-use Rattle.console.specs.StepLaws.{FoundNonce, sought, found-first, found-later, found-none}
+use Rattle.console.specs.StepLaws.{FoundNonce, found-first, found-later, found-elsewhere, found-none, turn-within, turn-next}
 use Rattle.console.proofs.judge.nonce_among.Statement.{statement}
 use Rattle.console.proofs.judge.nonce_among.Tie as tie
 
 -- the nonce found among the entries that are left is found among all
 abbrev Inv-loop : tie.InvT-loop
 Inv-loop image id t count offset₀ left₀ offset left =
-    (left ≤ count) × (offset + entryLen * left ≡ imageLogOffset + entryLen * count)
+    (left ≤ count) × (offset ≡ offsetAt image imageLogOffset (count - left))
     × ((nonce : List ℕ) → FoundNonce id t (entriesAt image offset left) nonce → FoundNonce id t (entriesAt image imageLogOffset count) nonce)
 
 abbrev μ-loop : tie.MeasureT-loop
 μ-loop image id t count offset₀ left₀ offset left = left
 
--- whose the entry is that a turn looks at
-own : (c : tie.After-struct-known2 Inv-loop μ-loop) →
-    let a = c .before .before .before .before .before .before .args in
-    eqb (c .before .before .id-at .result .0) (a .id .0) ≡ eqb (entryAt (a .image .now) (c .before .before .before .before .loop .offset) .id .0) (a .id .0)
-own c = ap (λ (i : CounterId). eqb (i .0) (c .before .before .before .before .before .before .args .id .0)) (c .before .before .id-at .ensures)
+start : tie.Need-loop-holds Inv-loop μ-loop
+unfolding offsetAt
+start c =
+    let a = c .before .args in
+    let none : a .count - a .count ≡ 0 = omega arith in
+    (omega arith, sym (ap (offsetAt (a .image .now) imageLogOffset) none), λ nonce found. found)
+
+-- the entry that a turn looks at stands within the image, and so do its requests
+within : (c : tie.After-count-at Inv-loop μ-loop) → (c .before .before .loop .offset ≤ imageLen) × (c .count-at .result ≤ maxRequests)
+within c =
+    let a = c .before .before .before .before in
+    let turn = c .before .before .loop in
+    let bounds = turn-within (a .args .image .now) (a .args .count) (turn .left) (turn .offset) (a .pre .0) (a .pre .1) (c .before .loop-test .taken) (turn .inv .0) (turn .inv .1) in
+    (bounds .0, subst (λ (n : ℕ). n ≤ maxRequests) (sym (c .count-at .ensures)) (bounds .1))
+
+-- how many requests of that entry stand before the counter's, and whether its reading is the one looked for
+index : (c : tie.After-find Inv-loop μ-loop) →
+    let counted = c .before .before .before .before .before in
+    let a = counted .before .before .before .before .args in
+    let offset = counted .before .before .loop .offset in
+    c .find .result ≡ placeOf (a .id) (requestsAt (a .image .now) (offset + headLen) (countAt (a .image .now) offset))
+index c =
+    let counted = c .before .before .before .before .before in
+    let a = counted .before .before .before .before .args in
+    c .find .ensures ∙ ap (λ (n : ℕ). placeOf (a .id) (requestsAt (a .image .now) (counted .before .before .loop .offset + headLen) n)) (counted .count-at .ensures)
 
 found : tie.Need-returns Inv-loop μ-loop
 found c =
-    let read = c .before .before .before .before in
-    let known = read .before .before in
-    let a = known .before .before .before .before .before .before .args in
-    let turn = known .before .before .before .before .loop in
-    let same-counter = sym (own known) ∙ eq-eqb _ _ (read .before .if1 .taken) in
-    let same-reading = ap (λ (r : GlobalClock). eqb (r .0) (a .t .0)) (sym (read .reading-at .ensures)) ∙ eq-eqb _ _ (c .before .if2 .taken) in
+    let there = c .before in
+    let same = there .before .before in
+    let counted = same .before .before .before .before in
+    let a = counted .before .before .before .before .args in
+    let turn = counted .before .before .loop in
     turn .inv .2 (c .nonce-at .result)
-    (found-first (a .id) (a .t) (a .image .now) (turn .offset) (turn .left) (c .nonce-at .result) (known .before .before .before .loop-test .taken)
-    (ap₂ _&&_ same-counter same-reading) (c .nonce-at .ensures))
+    (found-first (a .id) (a .t) (a .image .now) (turn .offset) (turn .left) (c .nonce-at .result) (counted .before .loop-test .taken)
+    (there .before .find .result) (index (there .before))
+    (sym (ap (λ (r : GlobalClock). r .0) (same .before .before .before .reading-at .ensures)) ∙ same .if1 .taken)
+    (subst (λ (n : ℕ). there .before .find .result < n) (counted .count-at .ensures) (there .if2 .taken))
+    (c .nonce-at .ensures))
 
 -- a turn that goes on has not found it
-other : (c : tie.Joined1 Inv-loop μ-loop) →
-    let known = c .before in
-    let a = known .before .before .before .before .before .before .args in
-    sought (a .id) (a .t) (entryAt (a .image .now) (known .before .before .before .before .loop .offset)) ≡ false
-other c =
-    let known = c .before in
-    let a = known .before .before .before .before .before .before .args in
-    let e = entryAt (a .image .now) (known .before .before .before .before .loop .offset) in
-    ⊎-elim
-    (λ w.
-    ap₂ _&&_ (sym (own known) ∙ eq-eqb _ _ (w .0 .taken))
-    (ap (λ (r : GlobalClock). eqb (r .0) (a .t .0)) (sym (w .1 .ensures)) ∙ ne-eqb _ _ (w .4 .left)))
-    (λ w. ap (λ (b : Bool). b && eqb (e .reading .0) (a .t .0)) (sym (own known) ∙ ne-eqb _ _ (w .left)))
-    (c .if1 .came)
-
 again : tie.Need-loop-again Inv-loop μ-loop
 again c =
-    let known = c .before in
-    let a = known .before .before .before .before .before .before .args in
-    let turn = known .before .before .before .before .loop in (
-      omega arith,
-      omega arith,
+    let known = c .before .before in
+    let counted = known .before .before .before in
+    let a = counted .before .before .before .before in
+    let s = a .args .image .now in
+    let turn = counted .before .before .loop in
+    let some = counted .before .loop-test .taken in
+    let long : c .entry-len .result ≡ lenAt s (turn .offset) = c .entry-len .ensures ∙ ap lenOf (counted .count-at .ensures) in (
+      omega (arith, turn .inv .0),
+      ap (λ (n : ℕ). turn .offset + n) long
+          ∙ turn-next s (a .args .count) (turn .left) (turn .offset) (a .pre .0) (a .pre .1) some (turn .inv .0) (turn .inv .1),
       λ nonce behind.
+          let others = subst (λ (n : ℕ). FoundNonce (a .args .id) (a .args .t) (entriesAt s (turn .offset + n) (turn .left - 1)) nonce) long behind in
           turn .inv .2 nonce
-          (found-later (a .id) (a .t) (a .image .now) (turn .offset) (turn .left) nonce (known .before .before .before .loop-test .taken) (other c) behind),
+          (⊎-elim
+          (λ w.
+          let at = w .1 .ensures ∙ ap (λ (n : ℕ). placeOf (a .args .id) (requestsAt s (turn .offset + headLen) n)) (counted .count-at .ensures) in
+          found-elsewhere (a .args .id) (a .args .t) s (turn .offset) (turn .left) nonce some (w .1 .result) at
+          (subst (λ (n : ℕ). n ≤ w .1 .result) (counted .count-at .ensures) (w .2 .left)) others)
+          (λ w.
+          found-later (a .args .id) (a .args .t) s (turn .offset) (turn .left) nonce some
+          (λ same. w .left (ap (λ (r : GlobalClock). r .0) (known .before .before .reading-at .ensures) ∙ same)) others)
+          (c .before .if1 .came)),
     )
 
 none : tie.Need-returns-2 Inv-loop μ-loop
@@ -83,13 +101,20 @@ nonce-among-spec =
     (tie.spec
     Inv-loop
     μ-loop
-    (λ c. (search needs, omega arith, λ nonce found. found))
+    start
     (λ c. search needs)
     (λ c κs. search needs)
     (λ c κs. search needs)
+    (λ c. let bounds = within (c .before .before .before .before) in omega (arith, bounds .0))
+    (λ c κs. search needs)
+    (λ c. let bounds = within (c .before .before .before .before .before .before) in omega (arith, bounds .0))
+    (λ c. search needs)
+    (λ c. let bounds = within (c .before .before .before .before .before .before) in omega (arith, bounds .1, c .if2 .taken))
+    (λ c. let bounds = within (c .before .before .before .before .before .before) in omega (arith, bounds .0, bounds .1, c .if2 .taken))
     (λ c κs. search needs)
     found
-    (λ c. search needs)
+    (λ c κs. search needs)
+    (λ c. let bounds = within (c .before .before .before .before .before) in omega (arith, bounds .0, bounds .1, c .entry-len .ensures))
     (λ c. search needs)
     again
     none)

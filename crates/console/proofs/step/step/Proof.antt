@@ -35,8 +35,8 @@ ticks c =
 increments : tie.Need-returns-4
 unfolding ran
 increments c =
-    let told = c .before .before .before .before .before .before in
-    known (told .before .before .before .args .image .now) (told .command4 .given .1) (c .before .before .increment .ensures)
+    let told = c .before .before .before .before .before in
+    known (told .before .before .before .args .image .now) (told .command4 .given .1) (c .before .before .show-increment .ensures)
 
 reads : tie.Need-returns-5
 unfolding ran
@@ -71,7 +71,7 @@ step-spec =
     tie.close
     (tie.spec
     (λ c. search needs) (λ c κs. search needs) (λ c. search needs) (λ c κs. search needs) (λ c. search needs) (λ c. search needs)
-    (λ c κs. search needs) (λ c. search needs) (λ c. search needs) (λ c κs. search needs) (λ c. search needs) (λ c κs. search needs)
-    (λ c. search needs) (λ c κs. search needs) (λ c. search needs) (λ c κs. search needs) (λ c. search needs) (λ c κs. search needs)
+    (λ c κs. search needs) (λ c. search needs) (λ c κs. search needs) (λ c. search needs) (λ c κs. search needs) (λ c. search needs)
+    (λ c κs. search needs) (λ c. search needs) (λ c κs. search needs) (λ c. search needs) (λ c κs. search needs)
     (λ c. search needs) (λ c. search needs) start (λ c. search needs) opens (λ c. search needs) ticks (λ c. search needs) increments
     (λ c. search needs) reads (λ c. search needs) proves (λ c. search needs) lasts (λ c. search needs) confirms none)

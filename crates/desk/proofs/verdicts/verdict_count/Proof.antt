@@ -1,10 +1,10 @@
 -- `desk::verdicts::verdict_count` meets its contract: a length that ends before the log has no entries. Assumes nothing.
 use mathlib.Core.Path.{_≡_, sym, ap, ap₂, _∙_}
-use Prim.Native.Nat.{ℕ, _+_, _-_, _*_, _/_}
+use Prim.Native.Nat.{ℕ, _+_, _-_, _/_}
 use native.Mathlib.Nat.{add-zero}
 use native.Mathlib.Omega.{arith}
 use borrow.Author.Needs.{needs}
-use Rattle.forms.specs.Limits.{entryLen}
+use Rattle.forms.specs.Limits.{requestLen}
 use Rattle.validity.specs.Proof.{logOffset}
 use Rattle.validity.specs.declared.proof.Proof.{Proof}
 use Rattle.desk.specs.Desk.{verdictsBefore}
@@ -23,16 +23,14 @@ short : tie.Need-returns
 short c =
     let a = c .before .before .before .before .args in
     let none : a .len - logOffset (a .kind) ≡ 0 = omega (arith, log (c .before)) in
-    before-entries (c .before .before) ∙ sym (ap (λ (n : ℕ). verdictsBefore (a .kind) + 2 * (n / entryLen)) none ∙ add-zero (verdictsBefore (a .kind)))
+    before-entries (c .before .before) ∙ sym (ap (λ (n : ℕ). verdictsBefore (a .kind) + n / requestLen) none ∙ add-zero (verdictsBefore (a .kind)))
 
 few : tie.Need-add-result
 few c = omega (arith, before-bound (c .before .before .before .before .args .kind), before-entries (c .before .before))
 
 counted : tie.Need-returns-2
 counted c =
-    ap₂ (λ (b n : ℕ). b + 2 * ((c .before .before .before .before .args .len - n) / entryLen)) (before-entries (c .before .before)) (log (c .before))
+    ap₂ (λ (b n : ℕ). b + (c .before .before .before .before .args .len - n) / requestLen) (before-entries (c .before .before)) (log (c .before))
 
 pub verdict-count-spec : {M : Type 1} → statement M
-verdict-count-spec =
-    tie.close
-    (tie.spec (λ c κs. search needs) (λ c κs. search needs) (λ c κs. search needs) short (λ c. search needs) few counted)
+verdict-count-spec = tie.close (tie.spec (λ c κs. search needs) (λ c κs. search needs) (λ c κs. search needs) short few counted)

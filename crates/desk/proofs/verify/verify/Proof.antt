@@ -3,7 +3,7 @@ use mathlib.Core.Path.{_≡_, sym, ap, ap₂, _∙_}
 use mathlib.Core.Bool.{Bool, cond}
 use borrow.Author.Needs.{needs}
 use Rattle.validity.specs.Proof.{parsed}
-use Rattle.validity.specs.ProofLaws.{parsed-counted, parsed-length}
+use Rattle.validity.specs.ProofLaws.{parsed-counted, parsed-ends}
 use Rattle.validity.specs.declared.proof.Parsed.{Parsed}
 use Rattle.validity.specs.declared.proof.Proof.{Proof}
 use Rattle.desk.specs.Answer.{Answer}
@@ -38,7 +38,7 @@ counted c κs =
     let parse = c .before .before .before in
     let bytes = start (parse .before .before) .args .proof .now in
     let e = sym (parse .parse .ensures) ∙ c .before .parsed .given .1 in
-    (parsed-counted bytes _ e, parsed-length bytes _ e)
+    (parsed-counted bytes _ e, parsed-ends bytes _ e)
 
 shown : tie.Need-returns-6
 shown c = c .judge .ensures ∙ read (c .before .before .before .before) _ (c .before .before .parsed .given .1)
