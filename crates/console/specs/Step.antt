@@ -1,17 +1,18 @@
 -- One command over an image: document 01, "The program". What it answers and the image after it, by the host's and the desk's own
 -- definitions. "All verdicts, the host's and the desk's, are 1". Assumes nothing.
-use Prim.Native.Nat.{ℕ}
+use Prim.Native.Nat.{ℕ, _+_, _*_}
 use mathlib.Core.Bool.{cond}
 use mathlib.Core.List.{List, [], _∷_, _++_}
 use lib.Dec.{eqb}
 use lib.ListN.{length, getD, take, replicate}
-use Rattle.forms.specs.Limits.{nonceLen, maxProofLen}
+use Rattle.forms.specs.Limits.{nonceLen, maxProofLen, maxUnits}
 use Rattle.forms.specs.Request.{requestBytes}
 use Rattle.forms.specs.declared.terms.CounterId.{CounterId}
 use Rattle.validity.specs.Proof.{Fields}
+use Rattle.validity.specs.declared.proof.Kind.{Kind}
 use Rattle.log_image.specs.State.{decode}
 use Rattle.desk.specs.Answer.{figures}
-use Rattle.desk.specs.Desk.{allYes, verified}
+use Rattle.desk.specs.Desk.{allYes, verdictsFor, verified}
 use Rattle.desk.specs.declared.answer.Answer.{Answer}
 use Rattle.host.specs.Host.{Settled, startCall, openCall, tickCall, incrementCall, incrementFigures, readCall, proveCall, lastCall, confirmCall}
 use Rattle.host.specs.declared.answer.BatchFigures.{BatchFigures}
@@ -41,9 +42,12 @@ deskFigures answer = record { number = figures answer .number; value = figures a
 abbrev pub readFigures : ReadFigures → Figures
 readFigures r = record { number = r .number; value = r .value }
 
--- a request as bytes
+-- a request as bytes, by its nonce and by a byte that stands for it
+abbrev pub requestWith : List ℕ → CounterId → ℕ → List ℕ
+requestWith nonce id before = requestBytes (record { nonce = nonce; id = id; before = before })
+
 abbrev pub requestOf : ℕ → CounterId → ℕ → List ℕ
-requestOf b id before = requestBytes (record { nonce = nonceOf b; id = id; before = before })
+requestOf b id before = requestWith (nonceOf b) id before
 
 -- of what increment gives for a batch of one, the request's own number, or that of the batch refused as a whole, and the value
 abbrev pub singleFigures : BatchFigures → Figures
@@ -55,15 +59,27 @@ unfoldable pub shown : Figures → Fields → List ℕ → CounterId → List �
 shown written fields output id nonce =
     cond (eqb (written .number) 0) (deskFigures (verified (take (written .value) output) (allYes fields) id nonce)) written
 
+-- a batch of one request, which the owner signed
+abbrev pub raisedOnce : List ℕ → List ℕ → CounterId → ℕ → Settled
+raisedOnce s nonce id before =
+    record {
+      figures = singleFigures (incrementFigures s (requestWith nonce id before) (yes ∷ []));
+      image = incrementCall s (requestWith nonce id before) (yes ∷ []) .image;
+    }
+
+-- the most verdicts on a proof: on the confirmation, on the certificate, and two on each entry of one request (2,050)
+abbrev pub maxVerdicts : ℕ
+maxVerdicts = 2 + 2 * maxUnits
+
+-- as many as a proof of a kind and a length asks for, all yes; for more bytes than a proof has, as many as there can be
+abbrev pub yesFor : Kind → ℕ → List ℕ
+yesFor kind len = take (verdictsFor kind len) (replicate {A = ℕ} maxVerdicts yes)
+
 unfoldable pub ran : List ℕ → Command → Settled
 ran s (Command.Start clock) = startCall s clock
 ran s (Command.Open c) = openCall s c yes
 ran s (Command.Tick b) = tickCall s (nonceOf b)
-ran s (Command.Increment b id before) =
-    record {
-      figures = singleFigures (incrementFigures s (requestOf b id before) (yes ∷ []));
-      image = incrementCall s (requestOf b id before) (yes ∷ []) .image;
-    }
+ran s (Command.Increment b id before) = raisedOnce s (nonceOf b) id before
 ran s (Command.Read id) = record { figures = readFigures (readCall s id); image = s }
 ran s (Command.Prove b id) =
     let call : Settled = proveCall s (nonceOf b) id (length emptyOutput) in

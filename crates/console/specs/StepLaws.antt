@@ -10,7 +10,7 @@ use borrow.Author.Tests.{eq-eqb, ne-eqb, lt-ltb, le-ltb}
 use Rattle.forms.specs.Bytes.{overwrite}
 use Rattle.forms.specs.BytesLaws.{overwrite-fits}
 use Rattle.forms.specs.Entry.{Entry, readingAt, countAt, lenAt, entryAt, entriesAt, offsetAt}
-use Rattle.forms.specs.Limits.{nonceLen, headLen, requestLen, maxRequests, maxUnits, imageLogOffset, imageLen, maxProofLen}
+use Rattle.forms.specs.Limits.{nonceLen, headLen, requestLen, maxRequests, imageLogOffset, imageLen, maxProofLen}
 use Rattle.forms.specs.LogLaws.{walk-counts}
 use Rattle.forms.specs.Request.{names, placeOf, nonceOf as requestNonceOf, requestAt, requestBytes, requestsAt}
 use Rattle.forms.specs.RequestLaws.{length-requests, request-length, names-place, place-nonce}
@@ -33,7 +33,7 @@ use Rattle.host.specs.RefusalLaws.{prove-passed, last-passed}
 use Rattle.host.specs.declared.answer.BatchFigures.{BatchFigures}
 use Rattle.host.specs.declared.answer.Figures.{Figures}
 use Rattle.grammar.specs.declared.command.Command.{Command}
-use Rattle.console.specs.Step.{deskFigures, emptyOutput, nonceOf, yes, requestOf, singleFigures, ran, shown}
+use Rattle.console.specs.Step.{deskFigures, emptyOutput, maxVerdicts, nonceOf, raisedOnce, ran, requestWith, shown, singleFigures, yes, yesFor}
 
 -- ---- the request in the entry with a reading
 
@@ -130,10 +130,8 @@ take-replicate (suc n) zero x few = absurd (omega arith)
 take-replicate (suc n) (suc m) x few = ap (λ (l : List ℕ). x ∷ l) (take-replicate n m x (omega arith))
 
 -- the first of as many verdicts as a proof can have
-pub first-yes : (kind : Kind) (len n : ℕ) → len ≤ maxProofLen → n ≡ verdictsFor kind len
-    → take n (replicate {A = ℕ} (2 + 2 * maxUnits) 1) ≡ replicate {A = ℕ} (verdictsFor kind len) 1
-first-yes kind len n few e =
-    ap (λ (k : ℕ). take k (replicate {A = ℕ} (2 + 2 * maxUnits) 1)) e ∙ take-replicate (verdictsFor kind len) (2 + 2 * maxUnits) 1 (verdicts-few kind len few)
+pub first-yes : (kind : Kind) (len : ℕ) → len ≤ maxProofLen → yesFor kind len ≡ replicate {A = ℕ} (verdictsFor kind len) 1
+first-yes kind len few = take-replicate (verdictsFor kind len) maxVerdicts 1 (verdicts-few kind len few)
 
 -- ---- what is shown of a proof
 
@@ -204,7 +202,7 @@ module _ (s : List ℕ) (id : CounterId) where
 -- ---- prove and last as lines
 
 module _ (s : List ℕ) (b : ℕ) (id : CounterId) (written : Figures) (call : written ≡ proveCall s (nonceOf b) id (length emptyOutput) .figures) where
-  pub prove-line-written : written .number ≡ 0 → written .value ≤ maxProofLen
+  prove-line-written : written .number ≡ 0 → written .value ≤ maxProofLen
   prove-line-written done = subst⁻¹ (λ (f : Figures). f .value ≤ maxProofLen) call (prove-written s id (nonceOf b) (sym (ap (λ (f : Figures). f .number) call) ∙ done) .1)
 
   pub prove-line-refused : (written .number ≡ 0 → ⊥) → written ≡ ran s (Command.Prove b id) .figures
@@ -215,19 +213,21 @@ module _ (s : List ℕ) (b : ℕ) (id : CounterId) (written : Figures) (call : w
       (λ none. some (ap (λ (f : Figures). f .number) call ∙ none)))
 
   pub prove-line-judged : (output : List ℕ) (judged : Figures) → written .number ≡ 0 → output ≡ proveOutput s (nonceOf b) id emptyOutput
-      → judged ≡ deskFigures (verified (take (written .value) output) (replicate {A = ℕ} (verdictsFor Kind.Read (written .value)) 1) id (nonceOf b))
+      → judged ≡ deskFigures (verified (take (written .value) output) (yesFor Kind.Read (written .value)) id (nonceOf b))
       → judged ≡ ran s (Command.Prove b id) .figures
   unfolding ran
   prove-line-judged output judged done out e =
       let again : proveCall s (nonceOf b) id (length emptyOutput) .figures .number ≡ 0 = sym (ap (λ (f : Figures). f .number) call) ∙ done in
       e
+      ∙ ap (λ (vs : List ℕ). deskFigures (verified (take (written .value) output) vs id (nonceOf b)))
+      (first-yes Kind.Read (written .value) (prove-line-written done))
       ∙ ap₂ (λ (n : ℕ) (o : List ℕ). deskFigures (verified (take n o) (replicate {A = ℕ} (verdictsFor Kind.Read n) 1) id (nonceOf b)))
       (ap (λ (f : Figures). f .value) call) out
       ∙ sym (shown-judged _ (proofOf (decode s) (nonceOf b) id) (proveOutput s (nonceOf b) id emptyOutput) id (nonceOf b) again
       (prove-written s id (nonceOf b) again .0))
 
 module _ (s : List ℕ) (id : CounterId) (t : GlobalClock) (written : Figures) (call : written ≡ lastCall s id t (length emptyOutput) .figures) where
-  pub last-line-written : written .number ≡ 0 → written .value ≤ maxProofLen
+  last-line-written : written .number ≡ 0 → written .value ≤ maxProofLen
   last-line-written done = subst⁻¹ (λ (f : Figures). f .value ≤ maxProofLen) call (last-written s id t (sym (ap (λ (f : Figures). f .number) call) ∙ done) .1)
 
   pub last-line-refused : (written .number ≡ 0 → ⊥) → written ≡ ran s (Command.Last id t) .figures
@@ -239,12 +239,14 @@ module _ (s : List ℕ) (id : CounterId) (t : GlobalClock) (written : Figures) (
 
   pub last-line-judged : (output nonce : List ℕ) (judged : Figures) → written .number ≡ 0 → output ≡ lastOutput s id t emptyOutput
       → FoundIn id t s nonce
-      → judged ≡ deskFigures (verified (take (written .value) output) (replicate {A = ℕ} (verdictsFor Kind.Increment (written .value)) 1) id nonce)
+      → judged ≡ deskFigures (verified (take (written .value) output) (yesFor Kind.Increment (written .value)) id nonce)
       → judged ≡ ran s (Command.Last id t) .figures
   unfolding ran
   last-line-judged output nonce judged done out found e =
       let again : lastCall s id t (length emptyOutput) .figures .number ≡ 0 = sym (ap (λ (f : Figures). f .number) call) ∙ done in
       e
+      ∙ ap (λ (vs : List ℕ). deskFigures (verified (take (written .value) output) vs id nonce))
+      (first-yes Kind.Increment (written .value) (last-line-written done))
       ∙ ap₂ (λ (n : ℕ) (o : List ℕ). deskFigures (verified (take n o) (replicate {A = ℕ} (verdictsFor Kind.Increment n) 1) id nonce))
       (ap (λ (f : Figures). f .value) call) out
       ∙ ap (λ (l : List ℕ). deskFigures (verified (take (lastCall s id t (length emptyOutput) .figures .value) (lastOutput s id t emptyOutput))
@@ -267,18 +269,16 @@ request-stored q nonce =
     nothing [] none = refl
     nothing (x ∷ l) none = absurd (omega arith)
 
-module _ (s : List ℕ) (b : ℕ) (id : CounterId) (before : ℕ) (requests : List ℕ) (call : BatchFigures) (stored : requests ≡ requestOf b id before)
+module _ (s nonce : List ℕ) (id : CounterId) (before : ℕ) (requests : List ℕ) (call : BatchFigures) (stored : requests ≡ requestWith nonce id before)
     (answers : call ≡ incrementFigures s requests (yes ∷ [])) where
-  -- what increment gives for the request of a line
-  given : call ≡ incrementFigures s (requestOf b id before) (yes ∷ [])
+  -- what increment gives for the request
+  given : call ≡ incrementFigures s (requestWith nonce id before) (yes ∷ [])
   given = answers ∙ ap (λ (l : List ℕ). incrementFigures s l (yes ∷ [])) stored
 
   -- the batch is refused as a whole, or the request has its own number
   pub increment-line : (number : ℕ) → number ≡ cond (eqb (call .number) 0) (getD (call .numbers) 0 0) (call .number)
-      → record { number = number; value = call .value } ≡ ran s (Command.Increment b id before) .figures
-  unfolding ran
+      → record { number = number; value = call .value } ≡ raisedOnce s nonce id before .figures
   increment-line number e = ap (λ (n : ℕ). record { number = n; value = call .value }) e ∙ ap singleFigures given
 
-  pub increment-image : (image : List ℕ) → image ≡ incrementCall s requests (yes ∷ []) .image → image ≡ ran s (Command.Increment b id before) .image
-  unfolding ran
+  pub increment-image : (image : List ℕ) → image ≡ incrementCall s requests (yes ∷ []) .image → image ≡ raisedOnce s nonce id before .image
   increment-image image e = e ∙ ap (λ (l : List ℕ). incrementCall s l (yes ∷ []) .image) stored

@@ -1,4 +1,5 @@
 // prove and last as lines ask for them: the host writes the proof, and the desk judges it with every verdict yes.
+use desk::answer::Answer;
 use desk::verdicts::verdict_count;
 use desk::verify::verify;
 use forms::entry::Head;
@@ -20,29 +21,37 @@ use text::part::front;
 use validity::proof::Kind;
 use validity::proof::Proof;
 ghost use mathlib.Core.Path.{_≡_};
-ghost use Prim.Native.Nat.{ℕ, _≤_};
-ghost use lib.ListN.{replicate, take};
+ghost use lib.ListN.{take};
 ghost use Rattle.forms.specs.Entry.{entriesAt};
-ghost use Rattle.forms.specs.Limits.{imageLogOffset, maxProofLen};
+ghost use Rattle.forms.specs.Limits.{imageLogOffset};
 ghost use Rattle.log_image.specs.Sound.{laidOut};
 ghost use Rattle.log_image.specs.State.{entryCount};
 ghost use mathlib.Core.Bool.{true};
-ghost use Rattle.desk.specs.Desk.{verdictsFor, verified};
+ghost use Rattle.desk.specs.Desk.{verified};
 ghost use Rattle.grammar.specs.declared.command.Command.{Command};
-ghost use Rattle.console.specs.Step.{deskFigures, ran};
+ghost use Rattle.console.specs.Step.{deskFigures, ran, yesFor};
 ghost use Rattle.console.specs.StepLaws.{FoundIn, FoundNonce};
 
 // The most verdicts on a proof: on the confirmation, on the certificate, and two on each entry of one request.
 const MAX_VERDICTS: usize = 2 + 2 * (LogEnd::MAX_UNITS as usize);
 
-// The desk's number and value for the proof of a kind at the start of an output.
-fn judge(kind: Kind, len: u32, out: &[u8], id: CounterId, nonce: &[u8]) -> Figures
-    requires { ⌜ len ≤ maxProofLen ⌝ }
-    ensures { λ r. ⌜ r ≡ deskFigures (verified (take len (now (out .entry))) (replicate {A = ℕ} (verdictsFor kind len) 1) id (now (nonce .entry))) ⌝ }
+// The desk's answer to the proof of a kind at the start of an output, with every verdict yes.
+//
+// Ruled out, among others: a desk that gets the whole output, with what an earlier proof left there; one that is told no where there is nobody to
+// say yes.
+pub fn judge(kind: Kind, len: u32, out: &[u8], id: CounterId, nonce: &[u8]) -> Answer
+    ensures { λ r. ⌜ r ≡ verified (take len (now (out .entry))) (yesFor kind len) id (now (nonce .entry)) ⌝ }
 {
     let yes = [1u8; MAX_VERDICTS];
     let verdicts = front(&yes, verdict_count(kind, len as usize));
-    let figures = verify(front(out, len as usize), verdicts, id, nonce).figures();
+    verify(front(out, len as usize), verdicts, id, nonce)
+}
+
+// Of the desk's answer, number and value.
+fn show(answer: Answer) -> Figures
+    ensures { λ r. ⌜ r ≡ deskFigures answer ⌝ }
+{
+    let figures = answer.figures();
     Figures {
         number: figures.number,
         value: figures.value,
@@ -60,7 +69,7 @@ pub(crate) fn show_prove(image: &mut [u8], byte: u8, id: CounterId) -> Figures
     if written.number != 0 {
         return written;
     }
-    judge(Kind::Read, written.value, &out, id, &nonce)
+    show(judge(Kind::Read, written.value, &out, id, &nonce))
 }
 
 // The nonce of a counter's request in the entry with a reading, where one of the entries of the log is that.
@@ -108,5 +117,5 @@ pub(crate) fn show_last(image: &mut [u8], id: CounterId, t: GlobalClock) -> Figu
     if written.number != 0 {
         return written;
     }
-    judge(Kind::Increment, written.value, &out, id, &nonce)
+    show(judge(Kind::Increment, written.value, &out, id, &nonce))
 }

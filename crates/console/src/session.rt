@@ -8,9 +8,10 @@ ghost use mathlib.Core.Path.{_≡_};
 ghost use Prim.Native.Nat.{_+_, _≤_};
 ghost use lib.ListN.{length};
 ghost use mathlib.Core.List.{[]};
-ghost use Rattle.console.specs.Session.{Printed, begun, byteTaken, closed, endedSession, extended, fedSession, pendingCommand, pendingOf, within};
+ghost use Rattle.console.specs.Session.{lineAnswered, pendingCommand};
+ghost use Rattle.console.specs.Lines.{Printed, begun, byteTaken, closed, endedSession, extended, fedSession, pendingOf, within};
 ghost use Rattle.console.specs.Step.{maxAnswer};
-ghost use Rattle.console.specs.SessionLaws.{Took, sessionAt};
+ghost use Rattle.console.specs.LinesLaws.{Took, sessionAt};
 
 // The most bytes of a line before its newline.
 pub const MAX_LINE: usize = 80;
@@ -79,8 +80,8 @@ impl Line {
 // Answers the line as it stands, and begins the next.
 fn close_line(fed: Fed, image: &mut [u8], text: &mut [u8]) -> Fed
     requires { ⌜ fed .len + maxAnswer ≤ length (now text) ⌝ }
-    ensures { λ r. ⌜ Took (closed (sessionAt fed (now (image .entry)) (now (text .entry))))
-        (now (text .entry)) r (now (image .exit)) (now (text .exit)) ⌝ }
+    ensures { λ r. ⌜ Took (closed lineAnswered (sessionAt (fed .line) (fed .len) (now (image .entry)) (now (text .entry))))
+        (now (text .entry)) (r .line) (r .len) (now (image .exit)) (now (text .exit)) ⌝ }
 {
     let line = fed.line;
     let figures = step(image, line.command());
@@ -94,8 +95,8 @@ fn close_line(fed: Fed, image: &mut [u8], text: &mut [u8]) -> Fed
 // Takes one byte of the input.
 fn take_byte(fed: Fed, byte: u8, image: &mut [u8], text: &mut [u8]) -> Fed
     requires { ⌜ fed .len + maxAnswer ≤ length (now text) ⌝ }
-    ensures { λ r. ⌜ Took (byteTaken (sessionAt fed (now (image .entry)) (now (text .entry))) byte)
-        (now (text .entry)) r (now (image .exit)) (now (text .exit)) ⌝ }
+    ensures { λ r. ⌜ Took (byteTaken lineAnswered (sessionAt (fed .line) (fed .len) (now (image .entry)) (now (text .entry))) byte)
+        (now (text .entry)) (r .line) (r .len) (now (image .exit)) (now (text .exit)) ⌝ }
 {
     if byte == b'\n' {
         return close_line(fed, image, text);
@@ -112,8 +113,8 @@ fn take_byte(fed: Fed, byte: u8, image: &mut [u8], text: &mut [u8]) -> Fed
 //
 // Ruled out, among others: a console that loses the line in which a part ends; one that answers a line of over 80 bytes twice.
 pub fn feed(line: Line, part: &[u8], image: &mut [u8], text: &mut [u8]) -> Fed
-    ensures { λ r. ⌜ Printed (fedSession line (now (image .entry)) (now (part .entry)) (length (now (text .entry))))
-        (now (text .entry)) r (now (image .exit)) (now (text .exit)) ⌝ }
+    ensures { λ r. ⌜ Printed (fedSession lineAnswered maxAnswer line (now (image .entry)) (now (part .entry)) (length (now (text .entry))))
+        (now (text .entry)) (r .line) (r .len) (now (image .exit)) (now (text .exit)) ⌝ }
 {
     let mut fed = Fed { line, len: 0 };
     if text.len() / MAX_ANSWER < part.len() {
@@ -131,8 +132,8 @@ pub fn feed(line: Line, part: &[u8], image: &mut [u8], text: &mut [u8]) -> Fed
 //
 // Ruled out, among others: a console that prints for an empty line after the last newline; one that drops a last line without newline.
 pub fn finish(line: Line, image: &mut [u8], text: &mut [u8]) -> Fed
-    ensures { λ r. ⌜ Printed (endedSession line (now (image .entry)) (length (now (text .entry))))
-        (now (text .entry)) r (now (image .exit)) (now (text .exit)) ⌝ }
+    ensures { λ r. ⌜ Printed (endedSession lineAnswered maxAnswer line (now (image .entry)) (length (now (text .entry))))
+        (now (text .entry)) (r .line) (r .len) (now (image .exit)) (now (text .exit)) ⌝ }
 {
     let fed = Fed { line, len: 0 };
     if text.len() < MAX_ANSWER {

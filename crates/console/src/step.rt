@@ -3,6 +3,7 @@ use crate::judge::show_last;
 use crate::judge::show_prove;
 use forms::bytes::put;
 use forms::nonce;
+use forms::nonce::Nonce;
 use forms::request::Request;
 use forms::terms::CounterId;
 use grammar::command::Command;
@@ -20,7 +21,7 @@ ghost use lib.ListN.{length};
 ghost use Rattle.forms.specs.Bytes.{overwrite};
 ghost use Rattle.grammar.specs.declared.command.Command.{Command};
 ghost use Rattle.host.specs.Host.{readCall};
-ghost use Rattle.console.specs.Step.{answerText, maxAnswer, ran, readFigures};
+ghost use Rattle.console.specs.Step.{answerText, maxAnswer, raisedOnce, ran, readFigures};
 
 // The owner's verdict on every confirmation, and on every request.
 const YES: u32 = 1;
@@ -41,13 +42,16 @@ fn show_read(image: &[u8], id: CounterId) -> Figures
     }
 }
 
-// increment as a line asks for it: a batch of one. A line prints the request's own number, or that of a batch refused as a whole.
-fn show_increment(image: &mut [u8], byte: u8, id: CounterId, before: u32) -> Figures
-    ensures { λ r. ⌜ r ≡ ran (now (image .entry)) (Command.Increment byte id before) .figures ⌝ }
-    ensures { λ _. ⌜ now (image .exit) ≡ ran (now (image .entry)) (Command.Increment byte id before) .image ⌝ }
+// One request, which the owner signed, as a batch of its own: its own number, or that of a batch refused as a whole, and the value.
+//
+// Ruled out, among others: a raise that answers 0 where the batch passed as a whole and its request did not; one that states the current value as
+// the value before, whatever it is given.
+pub fn raise_once(image: &mut [u8], nonce: Nonce, id: CounterId, before: u32) -> Figures
+    ensures { λ r. ⌜ r ≡ raisedOnce (now (image .entry)) nonce id before .figures ⌝ }
+    ensures { λ _. ⌜ now (image .exit) ≡ raisedOnce (now (image .entry)) nonce id before .image ⌝ }
 {
     let mut requests = [0u8; Request::LEN];
-    Request::new([byte; nonce::LEN], id, before).write(&mut requests, 0);
+    Request::new(nonce, id, before).write(&mut requests, 0);
     let verdicts = SIGNED;
     let shown = increment(image, &requests, &verdicts);
     let numbers = shown.numbers;
@@ -74,7 +78,9 @@ pub fn step(image: &mut [u8], command: Command) -> Figures
         Command::Start(clock) => start(image, clock),
         Command::Open(confirmation) => open(image, confirmation, YES),
         Command::Tick(byte) => tick(image, &[byte; nonce::LEN]),
-        Command::Increment(byte, id, before) => show_increment(image, byte, id, before),
+        Command::Increment(byte, id, before) => {
+            raise_once(image, [byte; nonce::LEN], id, before)
+        }
         Command::Read(id) => show_read(image, id),
         Command::Prove(byte, id) => show_prove(image, byte, id),
         Command::Last(id, t) => show_last(image, id, t),

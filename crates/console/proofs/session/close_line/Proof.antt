@@ -1,6 +1,12 @@
 -- `console::session::close_line` meets its contract: the answer is stored behind the text. Assumes nothing.
+use mathlib.Core.Path.{refl}
+use native.Mathlib.Omega.{arith}
 use borrow.Author.Needs.{needs}
-use Rattle.console.specs.SessionLaws.{took-closed}
+use Rattle.console.specs.AnswerLaws.{answer-short}
+use Rattle.console.specs.Lines.{pendingOf}
+use Rattle.console.specs.LinesLaws.{took-closed}
+use Rattle.console.specs.Session.{lineAnswered}
+use Rattle.console.specs.SessionLaws.{line-answered}
 use Rattle.console.proofs.session.close_line.Statement.{statement}
 use Rattle.console.proofs.session.close_line.Tie as tie
 
@@ -9,8 +15,10 @@ returns c =
     let put = c .before .before .before in
     let stepped = put .before .before .before .before in
     let start = stepped .before .before .before .before .before .before in
-    took-closed (start .args .fed) (start .args .image .now) (start .args .text .now) (start .pre) (stepped .before .command .ensures)
-    (stepped .step .ensures .0) (stepped .step .ensures .1) (put .put-answer .ensures .0) (put .put-answer .ensures .1) (c .new .ensures)
+    let a = start .args in
+    took-closed lineAnswered (a .fed .line) (a .fed .len) (a .image .now) (a .text .now)
+    (line-answered (a .image .now) (pendingOf (a .fed .line)) (stepped .before .command .ensures) (stepped .step .ensures .0) (stepped .step .ensures .1))
+    (omega (arith, start .pre, answer-short (stepped .step .result))) refl (put .put-answer .ensures .0) (put .put-answer .ensures .1) (c .new .ensures)
 
 pub close-line-spec : {M : Type 1} → statement M
 close-line-spec =

@@ -1,17 +1,21 @@
 -- `console::session::feed` meets its contract: after i turns the session stands where i bytes of the part leave it. Assumes nothing.
 use mathlib.Core.Path.{_≡_, refl, _∙_}
-use Prim.Native.Nat.{_-_, _*_, _≤_, zero-le}
+use Prim.Native.Nat.{_-_, zero-le}
 use native.Mathlib.Omega.{arith}
 use borrow.Author.Needs.{needs}
 use lib.ListN.{length}
+use Rattle.console.specs.Lines.{pendingOf}
+use Rattle.console.specs.LinesLaws.{Feeding, sessionAt, fed-none, fed-all, feeding-more, feeding-all, printed-at}
+use Rattle.console.specs.Session.{lineAnswered}
+use Rattle.console.specs.SessionLaws.{line-short}
 use Rattle.console.specs.Step.{maxAnswer}
-use Rattle.console.specs.SessionLaws.{Feeding, sessionAt, fed-none, fed-all, feeding-more, feeding-all, printed-at}
 use Rattle.console.proofs.session.feed.Statement.{statement}
 use Rattle.console.proofs.session.feed.Tie as tie
 
 abbrev Inv-loop : tie.InvT-loop
 Inv-loop part image₀ text₀ fed₀ i₀ image text fed i =
-    (length image ≡ length image₀) × Feeding (sessionAt fed₀ image₀ text₀) part text₀ fed image text i
+    (length image ≡ length image₀)
+    × Feeding lineAnswered maxAnswer (sessionAt (fed₀ .line) (fed₀ .len) image₀ text₀) part text₀ (fed .line) (fed .len) image text i
 
 abbrev μ-loop : tie.MeasureT-loop
 μ-loop part image₀ text₀ fed₀ i₀ image text fed i = length part - i
@@ -19,34 +23,30 @@ abbrev μ-loop : tie.MeasureT-loop
 returns : tie.Need-returns Inv-loop μ-loop
 returns c =
     let a = c .before .before .before .before .args in
-    printed-at (record { line = a .line; len = 0 }) (a .image .now) (a .text .now) (a .text .now)
-    (fed-none (a .line) (a .image .now) (a .part .now) (length (a .text .now)) (c .if1 .taken)) zero-le refl
-
--- the text has room for every byte's answer
-room : (c : tie.Else1 Inv-loop μ-loop) →
-    let a = c .before .before .before .before .args in
-    maxAnswer * length (a .part .now) ≤ length (a .text .now)
-room c = omega arith
+    printed-at (a .line) 0 (a .image .now) (a .text .now) (a .text .now)
+    (fed-none lineAnswered maxAnswer (a .line) (a .image .now) (a .part .now) (length (a .text .now)) (c .if1 .taken)) zero-le refl
 
 loop-holds : tie.Need-loop-holds Inv-loop μ-loop
-loop-holds c = (refl, record { inside = search needs; short = search needs; to-come = refl; behind = refl; same-length = refl })
+loop-holds c = (refl, record { inside = search needs; room = omega arith; to-come = refl; behind = refl; same-length = refl })
 
 take-byte-requires : tie.Need-take-byte-requires Inv-loop μ-loop
-take-byte-requires c κs = let fits = room (c .before .before .before .before .before) in omega arith
+take-byte-requires c κs = omega arith
 
 loop-again : tie.Need-loop-again Inv-loop μ-loop
 loop-again c =
     let took = c .before .before .before .before in
     let turn = took .before .before .before .before .before in (
       took .take-byte .kept .1 .1 .0 ∙ turn .loop .inv .0,
-      feeding-more (turn .loop .inv .1) (took .before .before .before .before .loop-test .taken) (room (turn .before)) (took .take-byte .ensures),
+      feeding-more (turn .loop .inv .1) (took .before .before .before .before .loop-test .taken)
+          (line-short (turn .loop .image) (pendingOf (turn .loop .fed .line))) (took .take-byte .ensures),
     )
 
 returns-2 : tie.Need-returns-2 Inv-loop μ-loop
 returns-2 c =
     let start = c .before .before in
     let a = start .before .before .before .before .args in
-    feeding-all (fed-all (a .line) (a .image .now) (a .part .now) (length (a .text .now)) (start .if1 .left)) (c .before .loop .inv .1) (c .loop-test .left) (room start)
+    let all = fed-all lineAnswered maxAnswer (a .line) (a .image .now) (a .part .now) (length (a .text .now)) (start .if1 .left) in
+    feeding-all all (c .before .loop .inv .1) (c .loop-test .left)
 
 pub feed-spec : {M : Type 1} → statement M
 feed-spec =

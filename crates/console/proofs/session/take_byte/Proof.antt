@@ -1,9 +1,12 @@
 -- `console::session::take_byte` meets its contract: a newline closes the line, and another byte extends it. Assumes nothing.
 use mathlib.Core.Path.{subst}
+use mathlib.Core.List.{List}
+use Prim.Native.Nat.{ℕ}
 use native.Mathlib.Omega.{arith}
 use borrow.Author.Needs.{needs}
-use Rattle.console.specs.Session.{Session}
-use Rattle.console.specs.SessionLaws.{Took, sessionAt, byte-newline, took-other}
+use Rattle.console.specs.Lines.{Session}
+use Rattle.console.specs.LinesLaws.{Took, sessionAt, byte-newline, took-other}
+use Rattle.console.specs.Session.{lineAnswered}
 use Rattle.console.proofs.session.take_byte.Statement.{statement}
 use Rattle.console.proofs.session.take_byte.Tie as tie
 
@@ -12,14 +15,18 @@ returns c =
     let line = c .before .before .before .before in
     let test = line .before .before .before in
     let a = test .before .before .before .args in
-    subst (λ (k : Session). Took k (a .text .now) (line .close-line .result) (line .close-line .last .1 .0) (line .close-line .last .1 .1 .0))
-    (byte-newline (sessionAt (a .fed) (a .image .now) (a .text .now)) (a .byte) (test .if1 .taken)) (line .close-line .ensures)
+    let at = sessionAt (a .fed .line) (a .fed .len) (a .image .now) (a .text .now) in
+    let fed = line .close-line .result in
+    subst (λ (k : Session (List ℕ)). Took k (a .text .now) (fed .line) (fed .len) (line .close-line .last .1 .0) (line .close-line .last .1 .1 .0))
+    (byte-newline lineAnswered at (a .byte) (test .if1 .taken)) (line .close-line .ensures)
 
 returns-2 : tie.Need-returns-2
 returns-2 c =
     let test = c .before .before in
-    let a = test .before .before .before .args in
-    took-other (a .fed) (a .image .now) (a .text .now) (a .byte) (omega (arith, test .before .before .before .pre)) (test .if1 .left) (c .extended .ensures)
+    let start = test .before .before .before in
+    let a = start .args in
+    took-other lineAnswered (a .fed .line) (a .fed .len) (a .image .now) (a .text .now) (a .byte) (omega (arith, start .pre)) (test .if1 .left)
+    (c .extended .ensures)
 
 pub take-byte-spec : {M : Type 1} → statement M
 take-byte-spec =

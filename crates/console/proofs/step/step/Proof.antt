@@ -36,7 +36,7 @@ increments : tie.Need-returns-4
 unfolding ran
 increments c =
     let told = c .before .before .before .before .before in
-    known (told .before .before .before .args .image .now) (told .command4 .given .1) (c .before .before .show-increment .ensures)
+    known (told .before .before .before .args .image .now) (told .command4 .given .1) (c .before .before .raise-once .ensures)
 
 reads : tie.Need-returns-5
 unfolding ran
