@@ -1,7 +1,7 @@
 -- Each call of the host leaves an image that is kept: bytes, sound, and of an image's length. So no call along a list finds the image
 -- unsound. Document 01, "The host"; the host's half of demand 3. Assumes nothing.
 use Prim.Native.Nat.{ℕ, _+_, _-_, _^_, _<_}
-use mathlib.Core.Path.{_≡_, refl, sym, subst}
+use mathlib.Core.Path.{_≡_, refl, sym, ap, subst, _∙_}
 use mathlib.Core.Bool.{Bool, true, false, not, cond, _&&_}
 use mathlib.Core.List.{List, [], _∷_}
 use native.Mathlib.Omega.{arith}
@@ -23,7 +23,7 @@ use Rattle.forms.specs.declared.terms.CounterId.{CounterId}
 use Rattle.forms.specs.declared.terms.GlobalClock.{GlobalClock}
 use Rattle.validity.specs.Proof.{fieldsLen}
 use Rattle.log_image.specs.FitLaws.{start-fits, store-clock-fits, append-record-fits, drop-entries-fits}
-use Rattle.log_image.specs.ImageRoundTrip.{StateFits, length-encode, encode-bytes, encode-sound, decode-fits, sound-decode, sound-laid-out}
+use Rattle.log_image.specs.ImageRoundTrip.{StateFits, length-encode, encode-bytes, encode-sound, decode-encode, decode-fits, sound-decode, sound-laid-out}
 use Rattle.log_image.specs.Sound.{base, soundState, sound}
 use Rattle.log_image.specs.State.{State, decode, encode}
 use Rattle.host.specs.CloseLaws.{closed-sound}
@@ -57,7 +57,7 @@ steady-kept st steady =
     record { bytes = encode-bytes st (steady .1); is-sound = encode-sound st (steady .1) (steady .0); long = length-encode st (steady .1) }
 
 -- and the state of such an image
-kept-steady : (s : List ℕ) → Kept s → Steady (decode s)
+pub kept-steady : (s : List ℕ) → Kept s → Steady (decode s)
 kept-steady s kept = (sound-decode s (kept .is-sound), decode-fits s (kept .bytes) (sound-laid-out s (kept .is-sound)))
 
 -- a call that did not find the image unsound, and that leaves one that is kept
@@ -107,6 +107,16 @@ start-steps s clock long small =
     (record { figures = record { number = 14; value = 0 }; image = s })))
     (sym (eq-eqb (length s) imageLen long))
     (record { found-sound = λ e. omega arith; kept = steady-kept (started clock) (started-sound clock, start-fits clock small) })
+
+-- the image that it leaves says its state
+pub start-says : (s : List ℕ) (clock : GlobalClock) → length s ≡ imageLen → clock .0 < 2 ^ 32 → decode (startCall s clock .image) ≡ started clock
+unfolding startCall
+start-says s clock long small =
+    ap (λ (b : Bool). decode (cond {A = Settled} b
+    (record { figures = record { number = 0; value = clock .0 }; image = encode (started clock) })
+    (record { figures = record { number = 14; value = 0 }; image = s }) .image))
+    (eq-eqb (length s) imageLen long)
+    ∙ decode-encode (started clock) (start-fits clock small)
 
 -- ---- the next state of a call that is not refused
 

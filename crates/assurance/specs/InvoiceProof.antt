@@ -7,7 +7,7 @@ use mathlib.Core.List.{List, [], _∷_}
 use native.Mathlib.Omega.{arith}
 use lib.Dec.{eqb}
 use lib.ListN.{length}
-use borrow.Author.Tests.{eqb-true, eqb-false, eq-eqb}
+use borrow.Author.Tests.{eqb-true, eqb-false}
 use Rattle.forms.specs.Bytes.{Bytes}
 use Rattle.forms.specs.Limits.{largest, imageLen}
 use Rattle.forms.specs.Record.{taken}
@@ -17,20 +17,19 @@ use Rattle.forms.specs.declared.confirmation.Confirmation.{Confirmation}
 use Rattle.forms.specs.declared.request.Request.{Request}
 use Rattle.forms.specs.declared.terms.CounterId.{CounterId}
 use Rattle.forms.specs.declared.terms.GlobalClock.{GlobalClock}
-use Rattle.log_image.specs.FitLaws.{start-fits}
 use Rattle.log_image.specs.ImageRoundTrip.{decode-encode, sound-decode}
 use Rattle.log_image.specs.Sound.{holds, distinct}
-use Rattle.log_image.specs.State.{Record, State, decode, encode}
+use Rattle.log_image.specs.State.{Record, State, decode}
 use Rattle.host.specs.DoneLaws.{settled-passed, value-given}
 use Rattle.host.specs.EachRecordLaws.{Keeps, held-keeps, raise-keeps, confirmation-keeps, holds-updated, holds-snoc}
-use Rattle.host.specs.Host.{Settled, recordOf, updated, proved, raisedTo, raisedBy, confirmedBy, started, opened, raised, incremented, advanced, ticked, noneHeld, counted, closedState, answered, settled, startCall, incrementCall, readCall, openRefusal, tickRefusal, batchRefusal, asked, judgedBatch, proveRefusal, lastRefusal, confirmRefusal, closeRefusal}
+use Rattle.host.specs.Host.{Settled, recordOf, updated, proved, raisedTo, raisedBy, confirmedBy, opened, raised, incremented, advanced, ticked, noneHeld, counted, closedState, answered, settled, startCall, incrementCall, readCall, openRefusal, tickRefusal, batchRefusal, asked, judgedBatch, proveRefusal, lastRefusal, confirmRefusal, closeRefusal}
 use Rattle.host.specs.RecordOfLaws.{record-updated, record-before, record-behind, holds-taken, holds-left, record-left}
 use Rattle.host.specs.RefusalLaws.{open-passed, close-passed}
 use Rattle.host.specs.SettledLaws.{settled-refused, settled-done}
 use Rattle.host.specs.SoundParts.{sound-parts}
 use Rattle.host.specs.declared.answer.Figures.{Figures}
 use Rattle.assurance.specs.HostList.{HostCall, settledBy, Widths}
-use Rattle.assurance.specs.HostSteps.{Kept, Steady, start-steps, open-steady, tick-steady, batch-steady, counted-steady, confirm-steady, close-steady, call-steps}
+use Rattle.assurance.specs.HostSteps.{Kept, Steady, start-says, start-steps, open-steady, tick-steady, batch-steady, counted-steady, confirm-steady, close-steady, call-steps}
 use Rattle.assurance.specs.Invoice.{countedBy, countedAfter, isFor, Invoiced, Counts, InvoiceClaim}
 
 -- ---- a figure from one state to the next
@@ -139,13 +138,7 @@ module _ (id : CounterId) (n : ℕ) where
 -- ---- start leaves no counter held
 
 start-records : (s : List ℕ) (clock : GlobalClock) → length s ≡ imageLen → clock .0 < 2 ^ 32 → decode (startCall s clock .image) .records ≡ []
-unfolding startCall
-start-records s clock long small =
-    ap (λ (b : Bool). decode (cond {A = Settled} b
-    (record { figures = record { number = 0; value = clock .0 }; image = encode (started clock) })
-    (record { figures = record { number = 14; value = 0 }; image = s }) .image) .records)
-    (eq-eqb (length s) imageLen long)
-    ∙ ap (λ (st : State). st .records) (decode-encode (started clock) (start-fits clock small))
+start-records s clock long small = ap (λ (st : State). st .records) (start-says s clock long small)
 
 none-figure : (id : CounterId) (m : ℕ) (rs : List Record) → rs ≡ [] → Figure id m rs
 unfolding holds

@@ -1,6 +1,11 @@
 pub mod AcceptLaws
 pub mod AcceptRows
 pub mod Accepted
+pub mod BenchActs
+pub mod BenchList
+pub mod BenchProof
+pub mod BenchRaise
+pub mod BenchWitness
 pub mod CloseWitness
 pub mod DeskExample
 pub mod DeskFreshness

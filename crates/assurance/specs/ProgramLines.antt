@@ -21,7 +21,7 @@ use Rattle.grammar.specs.declared.command.Arguments.{Arguments}
 use Rattle.grammar.specs.declared.command.Command.{Command}
 use Rattle.grammar.specs.declared.numeral.Figure.{Figure}
 use Rattle.console.specs.Session.{maxLine, lineCommand}
-use Rattle.console.specs.Step.{nonceOf, emptyOutput, yes, requestOf}
+use Rattle.console.specs.Step.{nonceOf, emptyOutput, yes, requestOf, requestWith}
 use Rattle.assurance.specs.HostList.{HostCall, Widths}
 
 -- the call that a command makes; a line that is none of the commands makes none, and `read` leaves the image as it does
@@ -98,12 +98,16 @@ nonce-bytes zero b small (suc k) = omega arith
 nonce-bytes (suc n) b small zero = small
 nonce-bytes (suc n) b small (suc k) = nonce-bytes n b small k
 
--- a request with such a nonce
-pub request-bytes : (b : ℕ) (id : CounterId) (before : ℕ) → b < 256 → Bytes (requestOf b id before)
+-- a request is bytes where its nonce is
+pub request-with-bytes : (nonce : List ℕ) (id : CounterId) (before : ℕ) → Bytes nonce → Bytes (requestWith nonce id before)
 unfolding requestBytes
-request-bytes b id before small =
-    bytes-append (nonceOf b ++ digits 4 (id .0)) (digits 4 before)
-    (bytes-append (nonceOf b) (digits 4 (id .0)) (nonce-bytes nonceLen b small) (bytes-digits 4 (id .0))) (bytes-digits 4 before)
+request-with-bytes nonce id before small =
+    bytes-append (nonce ++ digits 4 (id .0)) (digits 4 before)
+    (bytes-append nonce (digits 4 (id .0)) small (bytes-digits 4 (id .0))) (bytes-digits 4 before)
+
+-- and so where its nonce is of one byte
+pub request-bytes : (b : ℕ) (id : CounterId) (before : ℕ) → b < 256 → Bytes (requestOf b id before)
+request-bytes b id before small = request-with-bytes (nonceOf b) id before (nonce-bytes nonceLen b small)
 
 byte-fits : (b : ℕ) (c : Command) → (b < 256 → Fits c) → Fits (ofByte b c)
 byte-fits b c fits = by-test (leb b 255) refl

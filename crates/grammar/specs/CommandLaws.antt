@@ -14,6 +14,7 @@ use Rattle.forms.specs.Bytes.{same}
 use Rattle.forms.specs.BytesLaws.{same-equal}
 use Rattle.text.specs.Text.{before, firstPlace}
 use Rattle.grammar.specs.Command.{Arguments, space, onFirst, words, oneOf, twoOf, thirdTo, argumentsOf, named, byWords, commandOf}
+use Rattle.grammar.specs.Order.{orderNamed, orderBy, orderOf}
 use Rattle.grammar.specs.Numeral.{figureOf}
 
 -- ---- words
@@ -158,3 +159,9 @@ pub command-named : (line : List ℕ) (end : ℕ) → end ≡ before space line 
 unfolding commandOf
 command-named line end e =
     ap byWords (words-cut line) ∙ ap (λ (k : ℕ). named (take k line) (argumentsOf (restOf line k))) (sym e)
+
+-- and the order
+pub order-named : (line : List ℕ) (end : ℕ) → end ≡ before space line → orderOf line ≡ orderNamed (take end line) (argumentsOf (restOf line end))
+unfolding orderOf
+order-named line end e =
+    ap orderBy (words-cut line) ∙ ap (λ (k : ℕ). orderNamed (take k line) (argumentsOf (restOf line k))) (sym e)

@@ -3,3 +3,4 @@ pub mod CommandLaws
 pub mod Numeral
 pub mod NumeralLaws
 pub mod NumeralRoundTrip
+pub mod Order

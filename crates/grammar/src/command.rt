@@ -75,7 +75,7 @@ fn third_to(given: Arguments, c: Figure) -> Arguments
 }
 
 // The figures behind the name that ends at a place.
-fn read_arguments(line: &[u8], end: usize) -> Arguments
+pub(crate) fn read_arguments(line: &[u8], end: usize) -> Arguments
     requires { ⌜ end ≤ length (now line) ⌝ }
     ensures { λ r. ⌜ r ≡ argumentsOf (restOf (now (line .entry)) end) ⌝ }
 {
@@ -101,7 +101,7 @@ fn read_arguments(line: &[u8], end: usize) -> Arguments
 }
 
 // Whether the first bytes of a line, up to a place, are a name.
-fn is_name(line: &[u8], end: usize, name: &[u8]) -> bool
+pub(crate) fn is_name(line: &[u8], end: usize, name: &[u8]) -> bool
     requires { ⌜ end ≤ length (now line) ⌝ }
     ensures { λ r. ⌜ r ≡ same (take end (now (line .entry))) (now (name .entry)) ⌝ }
 {

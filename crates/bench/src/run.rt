@@ -1,0 +1,93 @@
+// The program's input and output: standard input is read in parts, and what the lines of each part print is written before the next is read. No
+// contract can say what is read and written; what is printed for a part is `feed`'s.
+use crate::bench::Bench;
+use crate::result::MAX_RESULT;
+use crate::session::feed;
+use crate::session::finish;
+use console::session::Line;
+use forms::image::Image;
+use libc::STDIN_FILENO;
+use libc::STDOUT_FILENO;
+use text::part::front;
+
+// The bytes that are read at a time, and the text that they may need.
+const PART: usize = 64;
+
+const TEXT: usize = PART * MAX_RESULT;
+
+struct Turn {
+    line: Line,
+    bench: Bench,
+    // Another turn is to be taken.
+    more: bool,
+    // Nothing failed.
+    whole: bool,
+}
+
+// Reads a part of the input and writes what its lines print.
+fn take_turn(line: Line, bench: Bench, image: &mut [u8]) -> Turn {
+    let mut part = [0u8; PART];
+    let got = libc::read(STDIN_FILENO, &mut part);
+    if got <= 0 {
+        return Turn {
+            line,
+            bench,
+            more: false,
+            whole: got == 0,
+        };
+    }
+    let mut text = [0u8; TEXT];
+    let fed = feed(
+        line,
+        bench,
+        front(&part, io::count(got, &part)),
+        image,
+        &mut text,
+    );
+    let written = io::write_all(STDOUT_FILENO, front(&text, fed.len));
+    let rest = fed.line;
+    let after = fed.bench;
+    Turn {
+        line: rest,
+        bench: after,
+        more: written,
+        whole: written,
+    }
+}
+
+// Takes a last line without newline.
+fn end(line: Line, bench: Bench, image: &mut [u8]) {
+    let mut text = [0u8; MAX_RESULT];
+    let fed = finish(line, bench, image, &mut text);
+    io::write_all(STDOUT_FILENO, front(&text, fed.len));
+}
+
+// Takes turns until the input ends or a read or a write fails. The turns are counted down from the largest number of 64 bits, which no input
+// reaches.
+fn take_turns(image: &mut [u8]) -> Turn {
+    let mut last = Turn {
+        line: Line::new(),
+        bench: Bench::new(),
+        more: true,
+        whole: true,
+    };
+    let mut turns = u64::MAX;
+    while 0 < turns && last.more {
+        turns -= 1;
+        let line = last.line;
+        let bench = last.bench;
+        last = take_turn(line, bench, image);
+    }
+    last
+}
+
+// Reads standard input to its end, from an image that is all zero. A read or a write that fails ends it, with no further line taken.
+pub fn run() {
+    let mut image = [0u8; Image::LEN];
+    let last = take_turns(&mut image);
+    if last.whole {
+        let line = last.line;
+        let bench = last.bench;
+        end(line, bench, &mut image);
+    }
+}

@@ -1,0 +1,4 @@
+// The bench on an input of its own: three tablets of two boxes.
+fn main() {
+    bench::run::run();
+}
