@@ -64,7 +64,7 @@ nonce-same : (own nonce : List ℕ) → length nonce ≡ nonceLen → own ≡ no
 nonce-same own nonce long e = ap₂ same e (window-whole nonce nonceLen long) ∙ same-refl nonce
 
 -- entries read back from where they were written
-entries-back : (s : List ℕ) (log : ℕ) (es : List Entry) → EntriesFit es → drop log s ≡ logBytes es → entriesAt s log (length es) ≡ es
+pub entries-back : (s : List ℕ) (log : ℕ) (es : List Entry) → EntriesFit es → drop log s ≡ logBytes es → entriesAt s log (length es) ≡ es
 entries-back s log es fit e =
     let here : log ≡ log + 0 = omega arith in
     ap (λ (j : ℕ). entriesAt s j (length es)) here
@@ -98,7 +98,7 @@ entriesIn (read c k n entries) = entries
 entriesIn (increment c n entries) = entries
 
 -- they read back from fields that writing takes, in kind 1
-read-back : (c : Confirmation) (k : Certificate) (n : ℕ) (entries : List ℕ) → Takes (read c k n entries)
+pub read-back : (c : Confirmation) (k : Certificate) (n : ℕ) (entries : List ℕ) → Takes (read c k n entries)
     → (confirmation (encode (read c k n entries)) ≡ c) × (certificate (encode (read c k n entries)) ≡ k) × (drop (logOffset Kind.Read) (encode (read c k n entries)) ≡ entries)
 unfolding confirmationIn certificateIn entriesIn decode encode headerOf headerBytes
 read-back c k n entries takes =
@@ -106,7 +106,7 @@ read-back c k n entries takes =
     (ap confirmationIn e, ap (certificateIn k) e, ap entriesIn e)
 
 -- and in kind 2
-increment-back : (c : Confirmation) (n : ℕ) (entries : List ℕ) → Takes (increment c n entries)
+pub increment-back : (c : Confirmation) (n : ℕ) (entries : List ℕ) → Takes (increment c n entries)
     → (confirmation (encode (increment c n entries)) ≡ c) × (drop (logOffset Kind.Increment) (encode (increment c n entries)) ≡ entries)
 unfolding confirmationIn entriesIn decode encode headerOf headerBytes
 increment-back c n entries takes =
@@ -125,7 +125,7 @@ increment-length c n entries = omega arith
 
 module _ (id : CounterId) (nonce : List ℕ) (c : Confirmation) (es : List Entry) (set-out : SetOut id c es) (wanted : Wanted id nonce) where
   -- the bytes that writing takes
-  taken : Taken c (length es) (logBytes es)
+  pub taken : Taken c (length es) (logBytes es)
   taken =
       record {
         fits = set-out .fits;

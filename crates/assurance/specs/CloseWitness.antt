@@ -2,7 +2,7 @@
 -- again, and the desk accepts the proofs of another counter before and after. From a start at 100, counter 7 is raised at 101, 9 is opened there, and
 -- both share the increment at 102. And the program has no line for it. Assumes nothing.
 use Prim.Native.Nat.{ℕ, _<_}
-use mathlib.Core.Path.{_≡_, refl, sym, ap, ap₂, subst, _∙_}
+use mathlib.Core.Path.{_≡_, refl, sym, ap, subst, _∙_}
 use mathlib.Core.List.{List, [], _∷_}
 use native.Mathlib.Omega.{arith}
 use lib.Dec.{lit<}
@@ -20,51 +20,50 @@ use Rattle.grammar.specs.Command.{argumentsOf, named, byWords}
 use Rattle.grammar.specs.declared.command.Arguments.{Arguments}
 use Rattle.grammar.specs.declared.command.Command.{Command}
 use Rattle.log_image.specs.Sound.{holds, oldest, after, ending}
-use Rattle.log_image.specs.State.{Record, State, decode}
-use Rattle.host.specs.Host.{Settled, recordOf, runningOf, openRefusal, askedFrom, judgeNext, judgedBatch, readRefusal, updated, entryOf, raisedBy, without, proofOf, answered, openCall, proveOutput}
-use Rattle.host.specs.SettledLaws.{answered-done, settled-refused}
-use Rattle.host.specs.declared.answer.Figures.{Figures}
+use Rattle.log_image.specs.State.{Record, State}
+use Rattle.host.specs.Host.{Settled, recordOf, openRefusal, askedFrom, judgeNext, judgedBatch, updated, entryOf, raisedBy, without, proofOf, openCall, proveOutput}
+use Rattle.host.specs.SettledLaws.{settled-refused}
 use Rattle.console.specs.Step.{ran}
-use Rattle.assurance.specs.HostList.{HostCall, settledBy, Taken, readRunning, Fair, Runs}
+use Rattle.assurance.specs.HostList.{HostCall, settledBy, Taken, Fair, Runs}
 use Rattle.assurance.specs.HostListWitness.{nonceOf, nonce-bytes, request, joined-bytes, none-bytes, blank, blank-long}
 use Rattle.assurance.specs.HostProof.{host-claim}
-use Rattle.assurance.specs.Places.{Stands, Done, begun-image, begun-here, signed, confirmed-fits, opening, opens, raises, proves, closing, closes}
+use Rattle.assurance.specs.Places.{Stands, Done, begun-image, begun-here, signed, confirmed-fits, opening, opens, raises, proves, closing, closes, shows}
 
 -- ---- the counters
 
-abbrev seven : CounterId
+abbrev pub seven : CounterId
 seven = counterId 7
 
-abbrev nine : CounterId
+abbrev pub nine : CounterId
 nine = counterId 9
 
-abbrev recordWith : CounterId → ℕ → ℕ → ℕ → Record
+abbrev pub recordWith : CounterId → ℕ → ℕ → ℕ → Record
 recordWith id t current proofs = record { held = signed id t; current = current; proofs = proofs }
 
 -- the request of 7 alone, with the nonce of a byte, and that of 7 and 9 together
-abbrev single : ℕ → ℕ → List Request
+abbrev pub single : ℕ → ℕ → List Request
 single b before = request b seven before ∷ []
 
 abbrev shared : List Request
 shared = request 2 seven 101 ∷ request 6 nine 101 ∷ []
 
-abbrev raiseAt : ℕ → List Request → Entry
+abbrev pub raiseAt : ℕ → List Request → Entry
 raiseAt t qs = entryOf (globalClock t) qs
 
-abbrev state : ℕ → List Record → List Entry → State
+abbrev pub state : ℕ → List Record → List Entry → State
 state clock records log = record { clock = globalClock clock; records = records; log = log }
 
 -- room for a proof of two entries with three requests
-abbrev room : List ℕ
+abbrev pub room : List ℕ
 room = replicate {A = ℕ} 200 0
 
 -- ---- the states along the list
 
 -- counter 7 is opened at the clock of the start, and raised
-abbrev holding : State
+abbrev pub holding : State
 holding = state 100 (recordWith seven 100 100 0 ∷ []) []
 
-abbrev raised : State
+abbrev pub raised : State
 raised = state 101 (recordWith seven 100 101 0 ∷ []) (raiseAt 101 (single 1 100) ∷ [])
 
 -- counter 9 is opened; then both are raised, and a proof of 9 written
@@ -87,13 +86,13 @@ raised-anew = state 103 (recordWith nine 101 102 1 ∷ recordWith seven 102 103 
 
 -- ---- the calls
 
-abbrev raising : ℕ → ℕ → HostCall
+abbrev pub raising : ℕ → ℕ → HostCall
 raising b before = HostCall.increment (joined (single b before)) (1 ∷ [])
 
 abbrev sharing : HostCall
 sharing = HostCall.increment (joined shared) (1 ∷ 1 ∷ [])
 
-single-bytes : (b before : ℕ) → b < 256 → Bytes (joined (single b before))
+pub single-bytes : (b before : ℕ) → b < 256 → Bytes (joined (single b before))
 single-bytes b before small = joined-bytes b seven before [] small none-bytes
 
 shared-bytes : Bytes (joined shared)
@@ -118,10 +117,10 @@ calls =
 
 -- ---- the images along it
 
-pub holding-image : List ℕ
+unfoldable pub holding-image : List ℕ
 holding-image = settledBy begun-image (opening seven 100) .image
 
-pub raised-image : List ℕ
+unfoldable pub raised-image : List ℕ
 raised-image = settledBy holding-image (raising 1 100) .image
 
 pub both-image : List ℕ
@@ -147,19 +146,19 @@ anew-image = settledBy reopened-image (raising 4 102) .image
 
 -- ---- up to the closing
 
-open-seven : Done (settledBy begun-image (opening seven 100)) 1 holding
+pub open-seven : Done (settledBy begun-image (opening seven 100)) 1 holding
 unfolding holds oldest after ownEntries
 open-seven = opens seven 100 (confirmed-fits 7 100 (lit< tt) (lit< tt)) begun-here refl refl
 
-holding-here : Stands holding-image holding
+pub holding-here : Stands holding-image holding
 unfolding holding-image
 holding-here = open-seven .leads
 
-raise-seven : Done (settledBy holding-image (raising 1 100)) 101 raised
+pub raise-seven : Done (settledBy holding-image (raising 1 100)) 101 raised
 unfolding judgedBatch judgeNext askedFrom requestAt joined requestBytes window holds recordOf ending oldest after runningAfter units names raisedBy updated
 raise-seven = raises (joined (single 1 100)) (1 ∷ []) (single 1 100) (single-bytes 1 100 (lit< tt)) holding-here refl refl (λ none. omega (arith, none)) refl
 
-raised-here : Stands raised-image raised
+pub raised-here : Stands raised-image raised
 unfolding raised-image
 raised-here = raise-seven .leads
 
@@ -193,7 +192,7 @@ shown-here = prove-before .leads
 -- one counter is left, and of two entries one; no proof was written for 7
 pub closing-done : Done (settledBy shown-image (closing seven 102)) 0 closed
 unfolding holds recordOf ending oldest after runningAfter step names without
-closing-done = closes seven 102 shown-here refl refl
+closing-done = closes (signed seven 102) shown-here refl refl
 
 closed-here : Stands closed-image closed
 unfolding closed-image
@@ -249,32 +248,15 @@ claimed =
 abbrev once : Running
 once = record { value = 102; openings = 1 }
 
--- where the state is known, so is all that the claim says of a proof
-shows : {s : List ℕ} {st : State} {value : ℕ} {to : State} (b : ℕ) → Stands s st → Done (settledBy s (proving b)) value to → Fair s (proving b)
-    → readRefusal st nine ≡ 0 → runningOf st nine ≡ once
-    → Taken (take value (proveOutput s (nonceOf b) nine room)) (proofOf st (nonceOf b) nine) nine (nonceOf b) once (st .clock)
-shows {s} {st} {value} b here proved fair none running =
-    let read : (part : Running → ℕ) → answered s (readRefusal (decode s) nine) (part (runningOf (decode s) nine)) ≡ record { number = 0; value = part (runningOf st nine) } = λ part.
-    ap (λ (x : State). answered s (readRefusal x nine) (part (runningOf x nine))) (here .says)
-    ∙ answered-done s (readRefusal st nine) (part (runningOf st nine)) (here .kept .is-sound) none in
-    let seen : readRunning s nine ≡ once =
-    ap₂ (λ (f g : Figures). record { value = f .value; openings = g .value }) (read (λ r. r .value)) (read (λ r. r .openings)) ∙ running in
-    let there = fair (ap (λ (f : Figures). f .number) (proved .answers)) .1 in
-    let proof : ℕ → List ℕ = λ n. take n (proveOutput s (nonceOf b) nine room) in
-    subst (λ (x : State). Taken (proof value) (proofOf x (nonceOf b) nine) nine (nonceOf b) once (x .clock)) (here .says)
-    (subst (λ (r : Running). Taken (proof value) (proofOf (decode s) (nonceOf b) nine) nine (nonceOf b) r (decode s .clock)) seen
-    (subst (λ (n : ℕ). Taken (proof n) (proofOf (decode s) (nonceOf b) nine) nine (nonceOf b) (readRunning s nine) (decode s .clock)) (ap (λ (f : Figures). f .value) (proved .answers))
-    there))
-
 -- before the closing the desk accepts 144 bytes, with an entry that counter 7 shares, and shows 102 at 102
 pub taken-before : Taken (take 144 (proveOutput raised-both-image (nonceOf 3) nine room)) (proofOf (both-raised 0) (nonceOf 3) nine) nine (nonceOf 3) once (globalClock 102)
 unfolding holds recordOf ending oldest after runningAfter step names
-taken-before = shows 3 raised-both-here prove-before (claimed .0) refl refl
+taken-before = shows 3 nine room once raised-both-here prove-before (claimed .0) refl refl
 
 -- and after it 200, with an entry that the closed counter shared and one of the reopened, and shows 102 at 103
 pub taken-after : Taken (take 200 (proveOutput anew-image (nonceOf 5) nine room)) (proofOf raised-anew (nonceOf 5) nine) nine (nonceOf 5) once (globalClock 103)
 unfolding holds recordOf updated ending oldest after runningAfter step names
-taken-after = shows 5 anew-here (proves 5 nine room anew-here refl refl) (claimed .1) refl refl
+taken-after = shows 5 nine room once anew-here (proves 5 nine room anew-here refl refl) (claimed .1) refl refl
 
 -- ---- the program
 

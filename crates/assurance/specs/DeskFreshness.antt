@@ -23,16 +23,16 @@ use Rattle.assurance.specs.ListLaws.{history-grows-to}
 
 -- the event that closes the proof of a call at place i: it has the wanted nonce and stands before the call, the clock before it
 -- being not above T
-record Closed (first : GlobalClock) (l : List Item) (i : ℕ) (c : Call) : Type 0 where
-  event : HistoryEvent
-  reading : GlobalClock
-  own : Has (c .nonce) event
-  stands : Stands first (history (take i l)) reading event
-  within : reading .0 ≤ closes c .0
+pub record Closed (first : GlobalClock) (l : List Item) (i : ℕ) (c : Call) : Type 0 where
+  pub event : HistoryEvent
+  pub reading : GlobalClock
+  pub own : Has (c .nonce) event
+  pub stands : Stands first (history (take i l)) reading event
+  pub within : reading .0 ≤ closes c .0
 
 module _ (first : GlobalClock) (signed : Signatures) (l : List Item) (i : ℕ) (c : Call) (passed : Passed c) (truth : Truth first signed l i c) where
   -- in kind 1 it is the certificate's clock read
-  closed-read : kindOf c ≡ Kind.Read → Closed first l i c
+  pub closed-read : kindOf c ≡ Kind.Read → Closed first l i c
   closed-read kind-is =
       record {
         event = read (certificate (c .proof) .nonce);
@@ -43,7 +43,7 @@ module _ (first : GlobalClock) (signed : Signatures) (l : List Item) (i : ℕ) (
       }
 
   -- in kind 2 the increment that carries the last entry's requests, the wanted nonce in one of them
-  closed-increment : kindOf c ≡ Kind.Increment → Carried first l i c (countOf c) → Closed first l i c
+  pub closed-increment : kindOf c ≡ Kind.Increment → Carried first l i c (countOf c) → Closed first l i c
   closed-increment kind-is (fit, is) =
       let n = countOf c in
       let e = entryOf c n in
@@ -80,7 +80,7 @@ module _ (first : GlobalClock) (signed : Signatures) (l : List Item) (i : ℕ) (
       omega (arith, entry-reached first signed l i c passed truth n some (omega arith), ap (λ (t : GlobalClock). t .0) ends)
 
 -- wherever the wanted nonce was still new, the clock was not above the closing reading
-closed-fresh : (first : GlobalClock) (l : List Item) (i : ℕ) (c : Call) → Closed first l i c → Fresh first l c
+pub closed-fresh : (first : GlobalClock) (l : List Item) (i : ℕ) (c : Call) → Closed first l i c → Fresh first l c
 closed-fresh first l i c closing j new = from (decLe j i)
   where
     from : Dec (j ≤ i) → clockAfter first (history (take j l)) .0 ≤ closes c .0

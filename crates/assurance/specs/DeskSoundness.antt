@@ -6,7 +6,7 @@ use Prim.Native.Nat.{ℕ, zero, suc, _+_, _-_, _≤_, _<_}
 use mathlib.Core.Path.{_≡_, refl, sym, ap, subst, subst₂, _∙_}
 use mathlib.Core.Logic.{_⊎_, inl, inr, ⊎-elim}
 use mathlib.Core.List.{List}
-use native.Mathlib.Nat.{le-refl, zero-add}
+use native.Mathlib.Nat.{zero-add}
 use native.Mathlib.Omega.{arith}
 use Rattle.forms.specs.declared.confirmation.Confirmation.{Confirmation}
 use Rattle.forms.specs.declared.terms.CounterId.{CounterId}
@@ -17,7 +17,7 @@ use Rattle.validity.specs.Proof.{logOffset}
 use Rattle.history.specs.Openings.{numberOf, openingsBetween}
 use Rattle.history.specs.OpeningsLaws.{running-walk}
 use Rattle.history.specs.Value.{Signatures, counts, valueAt}
-use Rattle.history.specs.ValueLaws.{valueAt-opened, valueAt-walks-on}
+use Rattle.history.specs.ValueLaws.{valueAt-walks-on}
 use Rattle.history.specs.Walk.{pass, walk}
 use Rattle.desk.specs.Desk.{confirmation, verdictsBefore}
 use Rattle.assurance.specs.Accepted.{Passed, countOf, runningOf, accepted-passed}
@@ -25,28 +25,10 @@ use Rattle.assurance.specs.DeskList.{Call, Item, confirmed, call, At, hi
 use Rattle.assurance.specs.EntryCounts.{Linked, entries-linked, entry-counts}
 use Rattle.assurance.specs.EntryWalk.{placed-walk}
 use Rattle.assurance.specs.ListLaws.{Opened, opened-or-not}
-
--- a value is the one that the history gives a counter at a reading, counted from its opening
-record Settled (first : GlobalClock) (signed : Signatures) (l : List Item) (id : CounterId) (reading : GlobalClock) (value : ℕ) : Type 0 where
-  place : ℕ
-  opening : Confirmation
-  opens : Opening l id place opening
-  within : opening .reading .0 ≤ reading .0
-  given : value ≡ valueAt signed id first (history l) (opening .reading) reading
+use Rattle.assurance.specs.Valued.{Valued}
+use Rattle.assurance.specs.ValuedLaws.{opening-valued}
 
 module _ (first : GlobalClock) (signed : Signatures) (l : List Item) where
-  -- an opening whose value is its reading
-  opening-settled : (id : CounterId) (j : ℕ) (k : Confirmation) → Opening l id j k → k .value ≡ k .reading .0
-      → Settled first signed l id (k .reading) (k .value)
-  opening-settled id j k opens same =
-      record {
-        place = j;
-        opening = k;
-        opens = opens;
-        within = le-refl (k .reading .0);
-        given = same ∙ sym (valueAt-opened signed id first (history l) (k .reading));
-      }
-
   -- value and openings that a call shows, along the clock
   call-walked : (i : ℕ) (c : Call) → Passed c → Truth first signed l i c → Linked first l i c (countOf c) →
       let counting = counts signed (c .id) first (history l) in
@@ -77,43 +59,56 @@ module _ (first : GlobalClock) (signed : Signatures) (l : List Item) where
       ∙ ap (numberOf counting (start .0)) (sym after)
 
   -- from the confirmation's value, the value shown
-  call-settled : (i : ℕ) (c : Call) → Passed c → Truth first signed l i c → Linked first l i c (countOf c)
-      → Settled first signed l (c .id) (confirmation (c .proof) .reading) (confirmation (c .proof) .value)
-      → Settled first signed l (c .id) (closes c) (shown c .value)
-  call-settled i c passed truth linked settled =
+  pub call-valued : (i : ℕ) (c : Call) → Passed c → Truth first signed l i c → Linked first l i c (countOf c)
+      → Valued first signed l (history l) (c .id) (confirmation (c .proof) .reading) (confirmation (c .proof) .value)
+      → Valued first signed l (history l) (c .id) (closes c) (shown c .value)
+  call-valued i c passed truth linked valued =
       let n = countOf c in
       let start = confirmation (c .proof) .reading in
       let counting = counts signed (c .id) first (history l) in
-      let opened = settled .opening .reading in
+      let opened = valued .opening .reading in
       record {
-        place = settled .place;
-        opening = settled .opening;
-        opens = settled .opens;
-        within = subst (λ (t : GlobalClock). opened .0 ≤ t .0) (sym (passed .closing)) (omega (arith, settled .within));
+        place = valued .place;
+        opening = valued .opening;
+        opens = valued .opens;
+        within = subst (λ (t : GlobalClock). opened .0 ≤ t .0) (sym (passed .closing)) (omega (arith, valued .within));
         given =
             ap (λ (r : Running). r .value) (call-walked i c passed truth linked)
-            ∙ ap (λ (v : ℕ). walk (pass counting) v start n) (settled .given)
-            ∙ sym (valueAt-walks-on signed (c .id) first (history l) opened start n (settled .within))
+            ∙ ap (λ (v : ℕ). walk (pass counting) v start n) (valued .given)
+            ∙ sym (valueAt-walks-on signed (c .id) first (history l) opened start n (valued .within))
             ∙ ap (valueAt signed (c .id) first (history l) opened) (sym (passed .closing));
       }
 
+  -- and so it is sound
+  pub call-sound : (i : ℕ) (c : Call) → Passed c → Truth first signed l i c → Linked first l i c (countOf c)
+      → Valued first signed l (history l) (c .id) (closes c) (shown c .value) → Sound first signed l c
+  call-sound i c passed truth linked valued =
+      record {
+        place = valued .place;
+        opening = valued .opening;
+        opens = valued .opens;
+        within = valued .within;
+        value = valued .given;
+        openings = call-openings i c passed truth linked;
+      }
+
   module _ (lent : Lent l) (id : CounterId) (i : ℕ) (supposed : Supposed first signed l id i) where
-    -- a confirmation of the counter, where the calls before it are settled
-    confirmation-settled : (j : ℕ) (k : Confirmation) → j ≤ i → At l j (confirmed k) → k .id ≡ id
+    -- a confirmation of the counter, where the calls before it show the history's value
+    confirmation-valued : (j : ℕ) (k : Confirmation) → j ≤ i → At l j (confirmed k) → k .id ≡ id
         → ((place : ℕ) (c : Call) → place < j → At l place (call c) → c .id ≡ id → Accepted c
-        → Settled first signed l id (closes c) (shown c .value) ⊎ Clashed first l id i)
-        → Settled first signed l id (k .reading) (k .value) ⊎ Clashed first l id i
-    confirmation-settled j k up-to stands own before = from (opened-or-not l id j)
+        → Valued first signed l (history l) id (closes c) (shown c .value) ⊎ Clashed first l id i)
+        → Valued first signed l (history l) id (k .reading) (k .value) ⊎ Clashed first l id i
+    confirmation-valued j k up-to stands own before = from (opened-or-not l id j)
       where
-        made : MadeFrom l j k → Settled first signed l id (k .reading) (k .value) ⊎ Clashed first l id i
+        made : MadeFrom l j k → Valued first signed l (history l) id (k .reading) (k .value) ⊎ Clashed first l id i
         made m =
-            subst₂ (λ (t : GlobalClock) (v : ℕ). Settled first signed l id t v ⊎ Clashed first l id i) (m .reading) (m .value)
+            subst₂ (λ (t : GlobalClock) (v : ℕ). Valued first signed l (history l) id t v ⊎ Clashed first l id i) (m .reading) (m .value)
             (before (m .place) (m .from) (m .earlier) (m .stands) (m .id ∙ own) (m .accepted))
 
-        from : Unopened l id j ⊎ Opened l id j → Settled first signed l id (k .reading) (k .value) ⊎ Clashed first l id i
+        from : Unopened l id j ⊎ Opened l id j → Valued first signed l (history l) id (k .reading) (k .value) ⊎ Clashed first l id i
         from (inl unopened) =
             let opens : Opening l id j k = record { stands = stands; own = own; before = unopened } in
-            inl (opening-settled id j k opens (supposed .opened j k up-to opens))
+            inl (opening-valued first signed l (history l) id j k opens (supposed .opened j k up-to opens))
         from (inr found) = made (supposed .others j (found .place) k (found .opening) up-to (found .opens) (found .earlier) stands own)
 
     -- the entries of an accepted call of the counter are the history's, or there is a clash
@@ -123,41 +118,32 @@ module _ (first : GlobalClock) (signed : Signatures) (l : List Item) where
         (entries-linked first signed l j c (accepted-passed c accepted) (supposed .truth j c up-to stands own accepted) (lent j c stands))
 
     -- every accepted call of the counter up to the place, by a bound on its own place
-    settled-below : (bound j : ℕ) (c : Call) → j < bound → j ≤ i → At l j (call c) → c .id ≡ id → Accepted c
-        → Settled first signed l id (closes c) (shown c .value) ⊎ Clashed first l id i
-    settled-below zero j c below up-to stands own accepted = absurd (omega arith)
-    settled-below (suc bound) j c below up-to stands own accepted =
+    valued-below : (bound j : ℕ) (c : Call) → j < bound → j ≤ i → At l j (call c) → c .id ≡ id → Accepted c
+        → Valued first signed l (history l) id (closes c) (shown c .value) ⊎ Clashed first l id i
+    valued-below zero j c below up-to stands own accepted = absurd (omega arith)
+    valued-below (suc bound) j c below up-to stands own accepted =
         let passed = accepted-passed c accepted in
         let truth = supposed .truth j c up-to stands own accepted in
         let confirms = truth .confirmation-yes (passed .confirmation-yes) in
-        let settled = confirmation-settled (confirms .0) (confirmation (c .proof)) (omega (arith, confirms .1)) (confirms .2) (passed .own ∙ own)
-        (λ place c′ earlier. settled-below bound place c′ (omega (arith, confirms .1)) (omega (arith, confirms .1)))
+        let valued = confirmation-valued (confirms .0) (confirmation (c .proof)) (omega (arith, confirms .1)) (confirms .2) (passed .own ∙ own)
+        (λ place c′ earlier. valued-below bound place c′ (omega (arith, confirms .1)) (omega (arith, confirms .1)))
         in
-        ⊎-elim (λ linked. ⊎-elim (λ start. inl (from-settled linked start)) inr settled) inr (call-linked j c up-to stands own accepted)
+        ⊎-elim (λ linked. ⊎-elim (λ start. inl (from-valued linked start)) inr valued) inr (call-linked j c up-to stands own accepted)
       where
-        from-settled : Linked first l j c (countOf c) → Settled first signed l id (confirmation (c .proof) .reading) (confirmation (c .proof) .value)
-            → Settled first signed l id (closes c) (shown c .value)
-        from-settled linked start =
-            subst (λ (x : CounterId). Settled first signed l x (closes c) (shown c .value)) own
-            (call-settled j c (accepted-passed c accepted) (supposed .truth j c up-to stands own accepted) linked
-            (subst (λ (x : CounterId). Settled first signed l x (confirmation (c .proof) .reading) (confirmation (c .proof) .value)) (sym own) start))
+        from-valued : Linked first l j c (countOf c) → Valued first signed l (history l) id (confirmation (c .proof) .reading) (confirmation (c .proof) .value)
+            → Valued first signed l (history l) id (closes c) (shown c .value)
+        from-valued linked start =
+            subst (λ (x : CounterId). Valued first signed l (history l) x (closes c) (shown c .value)) own
+            (call-valued j c (accepted-passed c accepted) (supposed .truth j c up-to stands own accepted) linked
+            (subst (λ (x : CounterId). Valued first signed l (history l) x (confirmation (c .proof) .reading) (confirmation (c .proof) .value))
+            (sym own) start))
 
   -- an accepted call is sound where what demand 3 supposes of its counter holds up to the call, or there is a clash
   pub accepted-sound : Lent l → (i : ℕ) (c : Call) → At l i (call c) → Accepted c → Supposed first signed l (c .id) i
       → Sound first signed l c ⊎ Clashed first l (c .id) i
   accepted-sound lent i c stands accepted supposed =
       ⊎-elim
-      (λ linked. ⊎-elim (λ settled. inl (sound linked settled)) inr
-      (settled-below lent (c .id) i supposed (suc i) i c (omega arith) (omega arith) stands refl accepted))
+      (λ linked. ⊎-elim
+      (λ valued. inl (call-sound i c (accepted-passed c accepted) (supposed .truth i c (omega arith) stands refl accepted) linked valued)) inr
+      (valued-below lent (c .id) i supposed (suc i) i c (omega arith) (omega arith) stands refl accepted))
       inr (call-linked lent (c .id) i supposed i c (omega arith) stands refl accepted)
-    where
-      sound : Linked first l i c (countOf c) → Settled first signed l (c .id) (closes c) (shown c .value) → Sound first signed l c
-      sound linked settled =
-          record {
-            place = settled .place;
-            opening = settled .opening;
-            opens = settled .opens;
-            within = settled .within;
-            value = settled .given;
-            openings = call-openings i c (accepted-passed c accepted) (supposed .truth i c (omega arith) stands refl accepted) linked;
-          }

@@ -89,12 +89,12 @@ computed = tt
 -- ---- facts place by place
 
 -- a fact of every item of a list at its place
-abbrev Everywhere : (ℕ → Item → Type 0) → List Item → Type 0
+abbrev pub Everywhere : (ℕ → Item → Type 0) → List Item → Type 0
 Everywhere P [] = Unit {0}
 Everywhere P (x ∷ l) = P 0 x × Everywhere (λ i. P (suc i)) l
 
 -- holds of the item at each place
-everywhere-at : (P : ℕ → Item → Type 0) (l : List Item) → Everywhere P l → (i : ℕ) (x : Item) → At l i x → P i x
+pub everywhere-at : (P : ℕ → Item → Type 0) (l : List Item) → Everywhere P l → (i : ℕ) (x : Item) → At l i x → P i x
 everywhere-at P [] all i x stands = absurd (let z : _≡_ {A = ℕ} 0 1 = cc in omega arith)
 everywhere-at P (y ∷ l) all zero x stands = subst (P 0) (let same : y ≡ x = cc in same) (all .0)
 everywhere-at P (y ∷ l) all (suc i) x stands = everywhere-at (λ j. P (suc j)) l (all .1) i x stands

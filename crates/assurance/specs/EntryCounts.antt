@@ -19,7 +19,7 @@ use Rattle.forms.specs.declared.request.Request.{Request}
 use Rattle.forms.specs.declared.terms.GlobalClock.{GlobalClock}
 use Rattle.digest.specs.Seal.{digestOf}
 use Rattle.digest.specs.SealLaws.{sealed-nonce}
-use Rattle.history.specs.History.{Given, HistoryEvent, list, bare, clockAfter, Made, made, unmade, incrementAt}
+use Rattle.history.specs.History.{Given, HistoryEvent, list, bare, clockAfter, Made, made, unmade, incrementAt, Carries}
 use Rattle.history.specs.HistoryLaws.{made-within}
 use Rattle.history.specs.Value.{Signatures, counts}
 use Rattle.history.specs.ValueLaws.{signed-once, made-counts, counts-stays}
@@ -42,10 +42,6 @@ told (suc verdict) is-signed low on-yes on-no = on-yes (omega arith) ∙ sym (ap
 request-counted : (request : Bool) (verdict : ℕ) (b : Bool) → (b ≡ true → request ≡ not (isNo verdict)) → (b && request) ≡ ownBy b verdict
 request-counted request verdict true says = says refl
 request-counted request verdict false says = refl
-
--- an increment of the history carries some requests
-abbrev pub Carries : Made → List Request → Type 0
-Carries m qs = (fit : RequestsFit qs) × (m ≡ made (list qs fit))
 
 module _ (first : GlobalClock) (l : List Item) (i : ℕ) (c : Call) where
   -- the history's increment at the reading of entry k, for a call at place i

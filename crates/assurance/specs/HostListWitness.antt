@@ -8,7 +8,7 @@ use mathlib.Core.List.{List, [], _∷_}
 use native.Mathlib.Omega.{arith}
 use lib.Dec.{eqb, lit<}
 use lib.ListN.{length, getD, take, replicate, length-replicate, length-append}
-use borrow.Author.Tests.{eq-eqb, ne-eqb}
+use borrow.Author.Tests.{ne-eqb}
 use Rattle.forms.specs.Bytes.{Bytes, window}
 use Rattle.forms.specs.BytesLaws.{bytes-none}
 use Rattle.forms.specs.Chain.{step, runningAfter, ownEntries}
@@ -42,6 +42,7 @@ use Rattle.host.specs.SettledLaws.{answered-done, settled-done}
 use Rattle.host.specs.declared.answer.Figures.{Figures}
 use Rattle.assurance.specs.HostList.{HostCall, Taken, readRunning, Runs}
 use Rattle.assurance.specs.HostProof.{host-claim}
+use Rattle.assurance.specs.HostSteps.{start-stores}
 use Rattle.assurance.specs.ProgramLines.{request-bytes}
 
 -- ---- the list
@@ -250,12 +251,7 @@ works st fits is number value next none =
 
 -- after start
 pub start-image : startCall blank (globalClock 100) .image ≡ encode begun
-unfolding startCall
-start-image =
-    ap (λ (b : Bool). cond {A = Settled} b
-    (record { figures = record { number = 0; value = 100 }; image = encode begun })
-    (record { figures = record { number = 14; value = 0 }; image = blank }) .image)
-    (eq-eqb (length blank) imageLen blank-long)
+start-image = start-stores blank (globalClock 100) blank-long
 
 -- after the calls of open
 holding-image : openCall (encode begun) (signed seven) 1 .image ≡ encode holding

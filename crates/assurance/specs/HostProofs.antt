@@ -8,7 +8,7 @@ use mathlib.Core.List.{List, [], _∷_, _++_}
 use native.Mathlib.Nat.{zero-add}
 use native.Mathlib.Omega.{arith}
 use lib.Dec.{eqb}
-use lib.ListN.{length, take, drop, length-drop, take-append-drop}
+use lib.ListN.{length, take, drop, length-drop, length-append, take-append-drop}
 use borrow.Author.Tests.{eqb-true, ne-eqb}
 use Rattle.forms.specs.Chain.{fromValue, runningAfter, valueAfter, chains, ownEntries}
 use Rattle.forms.specs.ChainLaws.{chains-append, openings-counted, value-snoc, step-own}
@@ -138,6 +138,13 @@ found id t g (e ∷ es) (EntriesFit.one-more fits more) steps has =
           asked = there .asked ∙ sym (ap (λ (b : Bool). cond b (nonceOf id (e .requests)) (requestNonce id t es)) is);
           fits = there .fits;
         }
+
+-- so there are some up to t
+pub found-some : (id : CounterId) (t : GlobalClock) (g : ℕ) (es : List Entry) → EntriesFit es → consecutive g es ≡ true → hasEntry id t es ≡ true
+    → 1 ≤ length (take (t .0 - g) es)
+found-some id t g es fit steps has =
+    let f = found id t g es fit steps has in
+    omega (arith, ap length (f .cut) ∙ length-append (f .front) (f .last ∷ []))
 
 -- the nonce of a request that fits has its length
 nonce-long : (id : CounterId) (rs : List Request) → RequestsFit rs → names id rs ≡ true → length (nonceOf id rs) ≡ nonceLen

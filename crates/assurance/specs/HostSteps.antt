@@ -108,15 +108,18 @@ start-steps s clock long small =
     (sym (eq-eqb (length s) imageLen long))
     (record { found-sound = λ e. omega arith; kept = steady-kept (started clock) (started-sound clock, start-fits clock small) })
 
--- the image that it leaves says its state
-pub start-says : (s : List ℕ) (clock : GlobalClock) → length s ≡ imageLen → clock .0 < 2 ^ 32 → decode (startCall s clock .image) ≡ started clock
+-- the image that it leaves
+pub start-stores : (s : List ℕ) (clock : GlobalClock) → length s ≡ imageLen → startCall s clock .image ≡ encode (started clock)
 unfolding startCall
-start-says s clock long small =
-    ap (λ (b : Bool). decode (cond {A = Settled} b
+start-stores s clock long =
+    ap (λ (b : Bool). cond {A = Settled} b
     (record { figures = record { number = 0; value = clock .0 }; image = encode (started clock) })
-    (record { figures = record { number = 14; value = 0 }; image = s }) .image))
+    (record { figures = record { number = 14; value = 0 }; image = s }) .image)
     (eq-eqb (length s) imageLen long)
-    ∙ decode-encode (started clock) (start-fits clock small)
+
+-- it says its state
+pub start-says : (s : List ℕ) (clock : GlobalClock) → length s ≡ imageLen → clock .0 < 2 ^ 32 → decode (startCall s clock .image) ≡ started clock
+start-says s clock long small = ap decode (start-stores s clock long) ∙ decode-encode (started clock) (start-fits clock small)
 
 -- ---- the next state of a call that is not refused
 

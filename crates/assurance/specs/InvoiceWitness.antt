@@ -194,7 +194,7 @@ cramped-here = subst (λ (image : List ℕ). Stands image (nine-first 2 1)) (sym
 
 close-nine : Done (settledBy cramped-image (closing nine 101)) 2 seven-alone
 unfolding holds recordOf ending oldest after runningAfter step names without
-close-nine = closes nine 101 cramped-here refl refl
+close-nine = closes (signed nine 101) cramped-here refl refl
 
 closed-here : Stands closed-image seven-alone
 unfolding closed-image

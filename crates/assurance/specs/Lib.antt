@@ -30,3 +30,5 @@ pub mod ProgramLines
 pub mod ProgramList
 pub mod ProgramProof
 pub mod Rows
+pub mod Valued
+pub mod ValuedLaws

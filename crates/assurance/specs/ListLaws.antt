@@ -1,4 +1,5 @@
--- Laws of the desk's list: its history only grows along it, and whether a counter was opened before a place can be told. Assumes nothing.
+-- Laws of the desk's list: what stands at a place stays there, its history only grows along it, and whether a counter was opened before a place can be
+-- told. Assumes nothing.
 use Prim.Native.Nat.{ℕ, zero, suc, _+_, _-_, _≤_, _<_}
 use mathlib.Core.Path.{_≡_, refl, sym, ap, _∙_}
 use mathlib.Core.Bool.{Bool, true, false}
@@ -7,7 +8,7 @@ use mathlib.Core.List.{List, [], _∷_, _++_}
 use mathlib.Core.Option.{Option, none, some}
 use native.Mathlib.Decide.{decLe}
 use native.Mathlib.Omega.{arith}
-use lib.ListN.{take, drop, getElem?, take-append-drop}
+use lib.ListN.{length, take, drop, getElem?, take-append-drop}
 use lib.Seq.{take-add}
 use borrow.Author.Tests.{eqb-false}
 use Rattle.forms.specs.Terms.{sameId}
@@ -16,6 +17,21 @@ use Rattle.forms.specs.declared.confirmation.Confirmation.{Confirmation}
 use Rattle.forms.specs.declared.terms.CounterId.{CounterId}
 use Rattle.history.specs.History.{HistoryEvent}
 use Rattle.assurance.specs.DeskList.{Item, event, confirmed, call, At, history, Unopened, Opening}
+
+-- ---- places
+
+module _ {A : Type 0} where
+  -- an item stands within its list
+  pub at-within : (l : List A) (i : ℕ) (x : A) → getElem? l i ≡ some x → i < length l
+  at-within [] i x stands = absurd (let z : _≡_ {A = ℕ} 0 1 = cc in omega arith)
+  at-within (y ∷ l) zero x stands = omega arith
+  at-within (y ∷ l) (suc i) x stands = omega (arith, at-within l i x stands)
+
+  -- and stays where it is in a longer one
+  pub at-stays : (l m : List A) (i : ℕ) (x : A) → getElem? l i ≡ some x → getElem? (l ++ m) i ≡ some x
+  at-stays [] m i x stands = absurd (let z : _≡_ {A = ℕ} 0 1 = cc in omega arith)
+  at-stays (y ∷ l) m zero x stands = stands
+  at-stays (y ∷ l) m (suc i) x stands = at-stays l m i x stands
 
 -- ---- the history
 

@@ -1,29 +1,32 @@
 -- A place in a worked list of calls: the image there, and the state that it says. Each call on it is worked out on the state alone. Assumes
 -- nothing.
 use Prim.Native.Nat.{ℕ, _+_, _-_, _<_}
-use mathlib.Core.Path.{_≡_, sym, ap, subst, _∙_}
+use mathlib.Core.Path.{_≡_, sym, ap, ap₂, subst, _∙_}
 use mathlib.Core.List.{List}
 use lib.Dec.{lit<}
-use lib.ListN.{length}
+use lib.ListN.{length, take}
 use Rattle.forms.specs.Bytes.{Bytes}
 use Rattle.forms.specs.EntryLaws.{EntriesFit}
 use Rattle.forms.specs.PartsLaws.{ConfirmationFits}
 use Rattle.forms.specs.Terms.{counterId, globalClock}
 use Rattle.forms.specs.declared.confirmation.Confirmation.{Confirmation}
 use Rattle.forms.specs.declared.request.Request.{Request}
+use Rattle.forms.specs.declared.running.Running.{Running}
 use Rattle.forms.specs.declared.terms.CounterId.{CounterId}
+use Rattle.forms.specs.declared.terms.GlobalClock.{GlobalClock}
 use Rattle.validity.specs.Proof.{fieldsLen, logOffset}
 use Rattle.validity.specs.declared.proof.Kind.{Kind}
-use Rattle.log_image.specs.FitLaws.{start-fits, entries-fit-drop}
+use Rattle.log_image.specs.FitLaws.{start-fits, entries-fit-drop, entries-fit-take}
 use Rattle.log_image.specs.ImageRoundTrip.{decode-encode, decode-fits, sound-laid-out}
 use Rattle.log_image.specs.Sound.{base, after}
 use Rattle.log_image.specs.State.{State, decode}
-use Rattle.host.specs.Host.{Settled, recordOf, heldOf, entriesOf, openRefusal, batchRefusal, asked, judgedBatch, proveRefusal, closeRefusal, started, opened, incremented, counted, closedState, proofOf, settled, startCall}
+use Rattle.host.specs.Host.{Settled, recordOf, heldOf, entriesOf, openRefusal, tickRefusal, batchRefusal, asked, judgedBatch, proveRefusal, lastRefusal, confirmRefusal, closeRefusal, readRefusal, runningOf, started, opened, incremented, ticked, counted, confirmedState, closedState, proofOf, lastEntries, lastOf, proveOutput, answered, settled, startCall}
 use Rattle.host.specs.RaiseLaws.{started-sound}
-use Rattle.host.specs.SettledLaws.{settled-done}
-use Rattle.assurance.specs.HostList.{HostCall, settledBy}
+use Rattle.host.specs.SettledLaws.{answered-done, settled-done}
+use Rattle.host.specs.declared.answer.Figures.{Figures}
+use Rattle.assurance.specs.HostList.{HostCall, settledBy, Taken, readRunning, Fair}
 use Rattle.assurance.specs.HostListWitness.{nonceOf, blank, start-image, lensOf, log-length, batch-settled}
-use Rattle.assurance.specs.HostSteps.{Kept, Steady, steady-kept, open-steady, batch-steady, counted-steady, close-steady}
+use Rattle.assurance.specs.HostSteps.{Kept, Steady, steady-kept, open-steady, tick-steady, batch-steady, counted-steady, confirm-steady, close-steady}
 
 -- an image that every call may be handed, and the state that it says
 pub record Stands (s : List ℕ) (st : State) : Type 0 where
@@ -44,6 +47,11 @@ done {s} {st} number value next {to} here none steady becomes =
       leads = subst (λ (image : List ℕ). Stands image to) (sym (ap (λ (r : Settled). r .image) e))
           (record { kept = steady-kept (next (decode s)) steady; says = decode-encode (next (decode s)) (steady .1) ∙ ap next (here .says) ∙ becomes });
     }
+
+-- its log fits
+stands-fit : {s : List ℕ} {st : State} → Stands s st → EntriesFit (st .log)
+stands-fit {s} here =
+    subst (λ (x : State). EntriesFit (x .log)) (here .says) (decode-fits s (here .kept .bytes) (sound-laid-out s (here .kept .is-sound)) .log)
 
 -- ---- the first place
 
@@ -95,8 +103,8 @@ proveLen id st = logOffset Kind.Read + lensOf (entriesOf st id)
 pub prove-length : {s : List ℕ} {st : State} (b : ℕ) (id : CounterId) → Stands s st → fieldsLen (proofOf st (nonceOf b) id) ≡ proveLen id st
 unfolding after
 prove-length {s} {st} b id here =
-    let log : EntriesFit (st .log) = subst (λ (x : State). EntriesFit (x .log)) (here .says) (decode-fits s (here .kept .bytes) (sound-laid-out s (here .kept .is-sound)) .log) in
-    ap (λ (n : ℕ). logOffset Kind.Read + n) (log-length (entriesOf st id) (entries-fit-drop (heldOf st id .reading .0 - base st) (st .log) log))
+    ap (λ (n : ℕ). logOffset Kind.Read + n)
+    (log-length (entriesOf st id) (entries-fit-drop (heldOf st id .reading .0 - base st) (st .log) (stands-fit here)))
 
 pub proves : {s : List ℕ} {st to : State} (b : ℕ) (id : CounterId) (output : List ℕ) → Stands s st
     → proveRefusal st (nonceOf b) id (proveLen id st) (length output) ≡ 0 → counted st id ≡ to
@@ -108,11 +116,64 @@ proves {s} {st} {to} b id output here none becomes =
     (done (λ x. proveRefusal x (nonceOf b) id (len x) (length output)) len (λ x. counted x id) here
     (ap (λ (n : ℕ). proveRefusal st (nonceOf b) id n (length output)) long ∙ none) (counted-steady s (here .kept) id) becomes)
 
+-- the same of a proof up to t
+abbrev pub lastLen : CounterId → GlobalClock → State → ℕ
+lastLen id t st = logOffset Kind.Increment + lensOf (lastEntries st id t)
+
+pub lasts : {s : List ℕ} {st to : State} (id : CounterId) (t : GlobalClock) (output : List ℕ) → Stands s st
+    → lastRefusal st id t (lastLen id t st) (length output) ≡ 0 → counted st id ≡ to → Done (settledBy s (HostCall.last id t output)) (lastLen id t st) to
+unfolding after
+lasts {s} {st} {to} id t output here none becomes =
+    let len : State → ℕ = λ x. fieldsLen (lastOf x id t) in
+    let log : EntriesFit (st .log) = stands-fit here in
+    let long : len st ≡ lastLen id t st = ap (λ (n : ℕ). logOffset Kind.Increment + n)
+    (log-length (lastEntries st id t)
+    (entries-fit-take (t .0 - heldOf st id .reading .0) _ (entries-fit-drop (heldOf st id .reading .0 - base st) (st .log) log))) in
+    subst (λ (n : ℕ). Done (settledBy s (HostCall.last id t output)) n to) long
+    (done (λ x. lastRefusal x id t (len x) (length output)) len (λ x. counted x id) here
+    (ap (λ (n : ℕ). lastRefusal st id t n (length output)) long ∙ none) (counted-steady s (here .kept) id) becomes)
+
+pub ticks : {s : List ℕ} {st to : State} (b : ℕ) → Stands s st → tickRefusal st (nonceOf b) ≡ 0 → ticked st ≡ to
+    → Done (settledBy s (HostCall.tick (nonceOf b))) (st .clock .0 + 1) to
+ticks {s} {st} b here none becomes =
+    done (λ x. tickRefusal x (nonceOf b)) (λ x. x .clock .0 + 1) ticked here none
+    (tick-steady s (here .kept) (nonceOf b) (ap (λ (x : State). tickRefusal x (nonceOf b)) (here .says) ∙ none)) becomes
+
+-- a confirmation in place of the held one
+pub confirms : {s : List ℕ} {st to : State} (k : Confirmation) → ConfirmationFits k → Stands s st → confirmRefusal st k 1 ≡ 0 → confirmedState st k ≡ to
+    → Done (settledBy s (HostCall.confirm k 1)) (length (confirmedState st k .log)) to
+confirms {s} {st} k fits here none becomes =
+    done (λ x. confirmRefusal x k 1) (λ x. length (confirmedState x k .log)) (λ x. confirmedState x k) here none
+    (confirm-steady s (here .kept) k 1 fits (ap (λ (x : State). confirmRefusal x k 1) (here .says) ∙ none)) becomes
+
 abbrev pub closing : CounterId → ℕ → HostCall
 closing id t = HostCall.close (signed id t) 1
 
-pub closes : {s : List ℕ} {st to : State} (id : CounterId) (t : ℕ) → Stands s st → closeRefusal st (signed id t) 1 ≡ 0 → closedState st id ≡ to
-    → Done (settledBy s (closing id t)) (recordOf (st .records) id .proofs) to
-closes {s} {st} id t here none becomes =
-    done (λ x. closeRefusal x (signed id t) 1) (λ x. recordOf (x .records) id .proofs) (λ x. closedState x id) here none
-    (close-steady s (here .kept) (signed id t) 1 (ap (λ (x : State). closeRefusal x (signed id t) 1) (here .says) ∙ none)) becomes
+pub closes : {s : List ℕ} {st to : State} (k : Confirmation) → Stands s st → closeRefusal st k 1 ≡ 0 → closedState st (k .id) ≡ to
+    → Done (settledBy s (HostCall.close k 1)) (recordOf (st .records) (k .id) .proofs) to
+closes {s} {st} k here none becomes =
+    done (λ x. closeRefusal x k 1) (λ x. recordOf (x .records) (k .id) .proofs) (λ x. closedState x (k .id)) here none
+    (close-steady s (here .kept) k 1 (ap (λ (x : State). closeRefusal x k 1) (here .says) ∙ none)) becomes
+
+-- ---- what a proof shows
+
+-- where the state is known, so is what read gives there
+pub reads : {s : List ℕ} {st : State} (id : CounterId) → Stands s st → readRefusal st id ≡ 0 → readRunning s id ≡ runningOf st id
+reads {s} {st} id here none =
+    let part-is : (part : Running → ℕ)
+    → answered s (readRefusal (decode s) id) (part (runningOf (decode s) id)) ≡ record { number = 0; value = part (runningOf st id) } = λ part.
+    ap (λ (x : State). answered s (readRefusal x id) (part (runningOf x id))) (here .says)
+    ∙ answered-done s (readRefusal st id) (part (runningOf st id)) (here .kept .is-sound) none in
+    ap₂ (λ (f g : Figures). record { value = f .value; openings = g .value }) (part-is (λ r. r .value)) (part-is (λ r. r .openings))
+
+-- and all that the host's claim says of a proof
+pub shows : {s : List ℕ} {st : State} {value : ℕ} {to : State} (b : ℕ) (id : CounterId) (output : List ℕ) (running : Running) → Stands s st
+    → Done (settledBy s (HostCall.prove (nonceOf b) id output)) value to → Fair s (HostCall.prove (nonceOf b) id output) → readRefusal st id ≡ 0
+    → runningOf st id ≡ running → Taken (take value (proveOutput s (nonceOf b) id output)) (proofOf st (nonceOf b) id) id (nonceOf b) running (st .clock)
+shows {s} {st} {value} b id output running here proved fair none runs =
+    let proof : ℕ → List ℕ = λ n. take n (proveOutput s (nonceOf b) id output) in
+    subst (λ (x : State). Taken (proof value) (proofOf x (nonceOf b) id) id (nonceOf b) running (x .clock)) (here .says)
+    (subst (λ (r : Running). Taken (proof value) (proofOf (decode s) (nonceOf b) id) id (nonceOf b) r (decode s .clock)) (reads id here none ∙ runs)
+    (subst (λ (n : ℕ). Taken (proof n) (proofOf (decode s) (nonceOf b) id) id (nonceOf b) (readRunning s id) (decode s .clock))
+    (ap (λ (f : Figures). f .value) (proved .answers))
+    (fair (ap (λ (f : Figures). f .number) (proved .answers)) .1)))

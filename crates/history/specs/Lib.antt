@@ -4,6 +4,7 @@ pub mod Nonce
 pub mod NonceLaws
 pub mod Openings
 pub mod OpeningsLaws
+pub mod ReadLaws
 pub mod Step
 pub mod StepLaws
 pub mod Value

@@ -1,12 +1,12 @@
--- What holds of every record of a list, and the record of a held counter among them: that of a counter found, one
--- more behind, one changed, one taken out. Assumes nothing.
+-- What holds of every one of a list, and of a list of records the one of a held counter: found, one more behind, one
+-- changed, one taken out. Assumes nothing.
 use mathlib.Core.Path.{_≡_, refl, sym, ap, ap₂, subst, _∙_}
-use Prim.Native.Nat.{ℕ, suc, _≤_, min}
+use Prim.Native.Nat.{ℕ, zero, suc, _≤_, min}
 use native.Mathlib.Omega.{arith}
 use mathlib.Core.Bool.{Bool, true, false, not, cond, _&&_, _||_, false≢true, or-false, or-assoc}
 use mathlib.Core.List.{List, [], _∷_, _++_}
 use lib.Dec.{eqb}
-use lib.ListN.{set}
+use lib.ListN.{set, take, drop}
 use borrow.Author.Tests.{eq-eqb, ne-eqb}
 use Rattle.forms.specs.Terms.{sameId}
 use Rattle.forms.specs.TermsLaws.{same-id, same-turned}
@@ -19,25 +19,37 @@ use Rattle.log_image.specs.Sound.{holds, indexOf, distinct, oldest}
 use Rattle.log_image.specs.PassLaws.{distinct-parts, nonzero}
 use Rattle.host.specs.Host.{recordOf, updated, raisedTo, confirmedBy, without}
 
--- something holds of every record of a list
-pub data Each (P : Record → Type 0) : List Record → Type 0 where
+-- something holds of every one of a list, records or others
+pub data Each {A : Type 0} (P : A → Type 0) : List A → Type 0 where
   done : Each P []
-  more : {r : Record} {rs : List Record} → P r → Each P rs → Each P (r ∷ rs)
+  more : {r : A} {rs : List A} → P r → Each P rs → Each P (r ∷ rs)
 
--- what holds of every record gives another thing of every one
-pub each-map : {P Q : Record → Type 0} {rs : List Record} → ((r : Record) → P r → Q r) → Each P rs → Each Q rs
-each-map f done = done
-each-map f (more {r = r} p ps) = more (f r p) (each-map f ps)
+module _ {A : Type 0} where
+  -- what holds of every one gives another thing of every one
+  pub each-map : {P Q : A → Type 0} {rs : List A} → ((r : A) → P r → Q r) → Each P rs → Each Q rs
+  each-map f done = done
+  each-map f (more {r = r} p ps) = more (f r p) (each-map f ps)
 
--- two things of every record are one
-pub each-both : {P Q : Record → Type 0} {rs : List Record} → Each P rs → Each Q rs → Each (λ r. P r × Q r) rs
-each-both done done = done
-each-both (more p ps) (more q qs) = more (p, q) (each-both ps qs)
+  -- two things of every one are one
+  pub each-both : {P Q : A → Type 0} {rs : List A} → Each P rs → Each Q rs → Each (λ r. P r × Q r) rs
+  each-both done done = done
+  each-both (more p ps) (more q qs) = more (p, q) (each-both ps qs)
 
--- one more record
-pub each-snoc : {P : Record → Type 0} {rs : List Record} {r : Record} → Each P rs → P r → Each P (rs ++ (r ∷ []))
-each-snoc done q = more q done
-each-snoc (more p ps) q = more p (each-snoc ps q)
+  -- one more behind them
+  pub each-snoc : {P : A → Type 0} {rs : List A} {r : A} → Each P rs → P r → Each P (rs ++ (r ∷ []))
+  each-snoc done q = more q done
+  each-snoc (more p ps) q = more p (each-snoc ps q)
+
+  -- those behind the first n, and the first n
+  pub each-drop : {P : A → Type 0} (n : ℕ) {rs : List A} → Each P rs → Each P (drop n rs)
+  each-drop zero ps = ps
+  each-drop (suc n) done = done
+  each-drop (suc n) (more p ps) = each-drop n ps
+
+  pub each-take : {P : A → Type 0} (n : ℕ) {rs : List A} → Each P rs → Each P (take n rs)
+  each-take zero ps = done
+  each-take (suc n) done = done
+  each-take (suc n) (more p ps) = more p (each-take n ps)
 
 -- ---- the record of a held counter
 
