@@ -196,6 +196,17 @@ typedef struct vmc_host_batch_figures {
  * The calls. The image is the caller's to keep: each call gets it as the last one left it, and nobody else writes it. Every call but start
  * looks first whether it is sound, whatever it holds.
  *
+ * A driver that keeps to four sentences writes no proof that a desk turns away, as long as the station says no only where no is true:
+ *
+ *     1  start is called with the reading that the module's clock has then.
+ *     2  For each tick and each increment that answers with a new reading the module increments once, in the order of the calls, given the digest
+ *        of the requests that passed, for a tick that of no bytes; for nothing else does it increment. A start gives up what is not done yet.
+ *     3  A verdict is 1 only where the signature holds: for open and confirm the owner's on the confirmation, for increment on each request.
+ *     4  The module goes first: before prove its clock was read with that nonce, at the reading that the image has; before last of t it has
+ *        incremented to t.
+ *
+ * Nothing is asked of the verdict that close gets, nor of calls that are refused. docs/ASSURANCE.md says what is proved of such a server.
+ *
  * Each pointer must be to as many bytes as its length says and must not be null even where the length is 0. Image and output are written, so
  * that no other buffer of the call may overlap them. No pointer is kept, nothing is allocated, and every call returns. verdict is 1 where
  * the owner's signature holds.
