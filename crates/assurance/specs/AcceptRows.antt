@@ -75,7 +75,7 @@ ones-right p s =
     ap₂ (λ (a b : Bool). not a || not b) (eq-eqb _ _ (length-replicate {A = ℕ} (verdictCount s p) 1)) (ones-zero-or-one (verdictCount s p))
 
 -- those of an entry stand behind those before it, and within the whole list
-verdicts-within : (s : List ℕ) (log before n k : ℕ) → k < n → verdictsTo s log before k + (1 + countAt s (offsetAt s log k)) ≤ verdictsTo s log before n
+pub verdicts-within : (s : List ℕ) (log before n k : ℕ) → k < n → verdictsTo s log before k + (1 + countAt s (offsetAt s log k)) ≤ verdictsTo s log before n
 unfolding verdictsTo
 verdicts-within s log before zero k less = let no : ⊥ = omega arith in absurd no
 verdicts-within s log before (suc n) k less = elim (decLe (suc k) n) [ yes earlier ↦ further (verdicts-within s log before n k earlier) | no later ↦ last (here later) ]

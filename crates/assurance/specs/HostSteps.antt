@@ -99,23 +99,24 @@ rows-other (row ∷ rows) others e =
 
 -- ---- start
 
-pub start-steps : (s : List ℕ) (clock : GlobalClock) → length s ≡ imageLen → clock .0 < 2 ^ 32 → Steps (startCall s clock)
+-- on a buffer of an image's length it is not refused
+pub start-settled : (s : List ℕ) (clock : GlobalClock) → length s ≡ imageLen
+    → startCall s clock ≡ record { figures = record { number = 0; value = clock .0 }; image = encode (started clock) }
 unfolding startCall
-start-steps s clock long small =
-    subst (λ (b : Bool). Steps (cond b
+start-settled s clock long =
+    ap (λ (b : Bool). cond {A = Settled} b
     (record { figures = record { number = 0; value = clock .0 }; image = encode (started clock) })
-    (record { figures = record { number = 14; value = 0 }; image = s })))
-    (sym (eq-eqb (length s) imageLen long))
+    (record { figures = record { number = 14; value = 0 }; image = s }))
+    (eq-eqb (length s) imageLen long)
+
+pub start-steps : (s : List ℕ) (clock : GlobalClock) → length s ≡ imageLen → clock .0 < 2 ^ 32 → Steps (startCall s clock)
+start-steps s clock long small =
+    subst Steps (sym (start-settled s clock long))
     (record { found-sound = λ e. omega arith; kept = steady-kept (started clock) (started-sound clock, start-fits clock small) })
 
 -- the image that it leaves
 pub start-stores : (s : List ℕ) (clock : GlobalClock) → length s ≡ imageLen → startCall s clock .image ≡ encode (started clock)
-unfolding startCall
-start-stores s clock long =
-    ap (λ (b : Bool). cond {A = Settled} b
-    (record { figures = record { number = 0; value = clock .0 }; image = encode (started clock) })
-    (record { figures = record { number = 14; value = 0 }; image = s }) .image)
-    (eq-eqb (length s) imageLen long)
+start-stores s clock long = ap (λ (r : Settled). r .image) (start-settled s clock long)
 
 -- it says its state
 pub start-says : (s : List ℕ) (clock : GlobalClock) → length s ≡ imageLen → clock .0 < 2 ^ 32 → decode (startCall s clock .image) ≡ started clock

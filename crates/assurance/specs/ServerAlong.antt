@@ -13,7 +13,7 @@ use Rattle.host.specs.Host.{startCall}
 use Rattle.assurance.specs.DeskList.{Item, history, Opening}
 use Rattle.assurance.specs.HostList.{HostCall, settledBy, Widths}
 use Rattle.assurance.specs.ListLaws.{at-within}
-use Rattle.assurance.specs.ServerList.{ServerItem, host, beside, ItemAt, deskList, hostList, imageAfter, owedBy, paidBy, owedAfter, SeenTo, HonestAt, Honest, Typed, Tells, OpenedTruly}
+use Rattle.assurance.specs.ServerList.{ServerItem, host, beside, ItemAt, deskList, hostList, imageAfter, owedBy, paidBy, owedAfter, SeenTo, HonestAt, Honest, Typed, Tells}
 
 infixr 5 _and_
 -- of one item, and of those behind it
@@ -73,6 +73,7 @@ module _ (first : GlobalClock) (signed : Signatures) (buffer : List ℕ) (l : Li
   pub honest-along : AlongBut (SeenTo first signed) (length l) begun [] [] l → (i : ℕ) → Honest first signed buffer l i
   honest-along seen i j up-to x stands = honest-but (length l) seen j (λ e. omega (arith, at-within l j x stands)) x stands
 
+  -- with the widths of the code's types
   abbrev pub TypedItem : Asking
   TypedItem d s owed (host c) = Widths c
   TypedItem d s owed (beside x) = Unit
@@ -80,7 +81,7 @@ module _ (first : GlobalClock) (signed : Signatures) (buffer : List ℕ) (l : Li
   pub typed-along : AlongBut TypedItem (length l) begun [] [] l → Typed l
   typed-along seen i c stands = along-at TypedItem (length l) begun [] [] l seen i (λ e. omega (arith, at-within l i (host c) stands)) (host c) stands
 
-  -- of a call that opens the counter, refused or not
+  -- what is supposed of a call that opens the counter, asked of it refused or not
   abbrev pub OpensItem : CounterId → Asking
   OpensItem id d s owed (host (HostCall.«open» k verdict)) =
       k .id ≡ id → ((n : ℕ) × Opening (deskList l) id n k) ⊎ Tells first signed (deskList l) (history d) k
@@ -93,8 +94,3 @@ module _ (first : GlobalClock) (signed : Signatures) (buffer : List ℕ) (l : Li
   OpensItem id d s owed (host (HostCall.confirm k verdict)) = Unit
   OpensItem id d s owed (host (HostCall.close k verdict)) = Unit
   OpensItem id d s owed (beside x) = Unit
-
-  pub opened-along : (id : CounterId) → AlongBut (OpensItem id) (length l) begun [] [] l → (i : ℕ) → OpenedTruly first signed buffer l i id
-  opened-along id seen i j k verdict before stands done own =
-      along-at (OpensItem id) (length l) begun [] [] l seen j (λ e. omega (arith, at-within l j (host (HostCall.«open» k verdict)) stands))
-      (host (HostCall.«open» k verdict)) stands own

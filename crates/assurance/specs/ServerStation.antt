@@ -18,10 +18,11 @@ use Rattle.validity.specs.Proof.{logOffset, shapeAt}
 use Rattle.validity.specs.declared.proof.Kind.{Kind}
 use Rattle.history.specs.Value.{Signatures}
 use Rattle.desk.specs.Desk.{verdictsBefore, verdictsTo, verdictCount}
-use Rattle.assurance.specs.AcceptRows.{ones}
+use Rattle.assurance.specs.AcceptRows.{ones, verdicts-within}
 use Rattle.assurance.specs.Accepted.{Passed, countOf, accepted-passed}
-use Rattle.assurance.specs.DeskList.{Call, Item, kindOf, entryOf}
-use Rattle.assurance.specs.ServerList.{AllSigned, Borne, TrueNo, withVerdicts}
+use Rattle.assurance.specs.DeskList.{Call, Item, Accepted, kindOf, entryOf}
+use Rattle.assurance.specs.ListLaws.{at-within}
+use Rattle.assurance.specs.ServerList.{AllSigned, Borne, TrueNo, withVerdicts, ownerPlace}
 
 -- ---- what a verdict is on
 
@@ -114,3 +115,33 @@ module _ (first : GlobalClock) (signed : Signatures) (d : List Item) (m : ℕ) (
       (λ k within.
       not-no k (place-yes k (where-is (p .proof) (logOffset (kindOf p)) (verdictsBefore (kindOf p)) (countOf p) k (omega (arith, told .as-many))))
       ∙ sym (getD-replicate n k 1 0 (omega (arith, told .as-many))))
+
+-- and of that list each no is true, since there is none: what is supposed of a station can be met
+pub ones-true-no : (first : GlobalClock) (signed : Signatures) (d : List Item) (m : ℕ) (p : Call) → Accepted p → p .verdicts ≡ ones (length (p .verdicts))
+    → TrueNo first signed d m p
+unfolding entryAt
+ones-true-no first signed d m p accepted verdicts =
+    record {
+      as-many = passed .verdicts;
+      zero-or-one = passed .zero-or-one;
+      confirmation-no = λ said. absurd (omega (arith, said, passed .confirmation-yes));
+      certificate-no = λ kind said. absurd (omega (arith, said, passed .certificate-yes kind));
+      module-no = λ k low high said. absurd (omega (arith, said, passed .module-yes k low high));
+      owner-no = λ k q r low high there said. absurd (owner k q r low high there said);
+    }
+  where
+    passed : Passed p
+    passed = accepted-passed p accepted
+
+    owner : (k q : ℕ) (r : Request) → 1 ≤ k → k ≤ countOf p → getElem? (entryOf p k .requests) q ≡ some r → getD (p .verdicts) (ownerPlace p k q) 0 ≡ 0 → ⊥
+    owner k q r low high there said =
+        let s = p .proof in
+        let log = logOffset (kindOf p) in
+        let n = verdictCount s (shapeAt s) in
+        let o = offsetAt s log (k - 1) in
+        let among : q < countAt s o = omega (arith, at-within (entryOf p k .requests) q r there, length-requests s (o + headLen) (countAt s o)) in
+        let within : ownerPlace p k q < n = omega (arith, among, verdicts-within s log (verdictsBefore (kindOf p)) (countOf p) (k - 1) (omega arith)) in
+        let all : p .verdicts ≡ ones n = verdicts ∙ ap ones (passed .verdicts) in
+        let is-yes : getD (p .verdicts) (ownerPlace p k q) 0 ≡ 1 =
+        ap (λ (v : List ℕ). getD v (ownerPlace p k q) 0) all ∙ getD-replicate n (ownerPlace p k q) 1 0 within in
+        omega (arith, said, is-yes)

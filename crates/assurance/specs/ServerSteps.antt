@@ -27,14 +27,14 @@ use Rattle.log_image.specs.State.{Record, State, decode, encode}
 use Rattle.host.specs.BatchLaws.{passed-fit}
 use Rattle.host.specs.EachRecordLaws.{Each, each-map, each-snoc, each-drop, each-updated, each-held, each-without, distinct-updated, held-id, held-keeps, raise-keeps}
 use Rattle.host.specs.DoneLaws.{settled-passed}
-use Rattle.host.specs.Host.{Settled, heldOf, asked, judgedBatch, openRefusal, tickRefusal, batchRefusal, proveRefusal, lastRefusal, confirmRefusal, closeRefusal, updated, raisedTo, confirmedBy, proved, started, opened, entryOf, raised, raisedBy, incremented, noneHeld, advanced, ticked, counted, replaced, confirmedState, without, closedState, answered, settled, startCall, incrementCall}
+use Rattle.host.specs.Host.{Settled, heldOf, asked, judgedBatch, openRefusal, tickRefusal, batchRefusal, proveRefusal, lastRefusal, confirmRefusal, closeRefusal, updated, raisedTo, confirmedBy, proved, opened, entryOf, raised, raisedBy, incremented, noneHeld, advanced, ticked, counted, replaced, confirmedState, without, closedState, answered, settled, startCall, incrementCall}
 use Rattle.host.specs.RefusalLaws.{open-passed, confirm-passed}
 use Rattle.host.specs.SettledLaws.{settled-refused, settled-done, answered-done, answered-refused}
 use Rattle.host.specs.SoundParts.{sound-parts}
 use Rattle.host.specs.declared.answer.Figures.{Figures}
 use Rattle.assurance.specs.DeskList.{Item, event, confirmed, call, history, Opening}
 use Rattle.assurance.specs.HostList.{HostCall, settledBy, Widths}
-use Rattle.assurance.specs.HostSteps.{Kept, Steady, steady-kept, kept-steady, start-steps, start-says, open-steady, tick-steady, batch-steady, counted-steady, confirm-steady, close-steady}
+use Rattle.assurance.specs.HostSteps.{Kept, Steady, steady-kept, kept-steady, start-settled, start-steps, start-says, open-steady, tick-steady, batch-steady, counted-steady, confirm-steady, close-steady}
 use Rattle.assurance.specs.ListLaws.{at-stays, history-append}
 use Rattle.assurance.specs.ServerLaws.{Certified, certified-stays, certified-read, certified-next}
 use Rattle.assurance.specs.ServerList.{owing, owedBy, paidBy, Stood, AllSigned, Duty, Paid, SeenTo, beside, Tells}
@@ -61,15 +61,6 @@ each-raised P reading (q ∷ qs) rs differ each =
     each-raised P reading qs (updated rs (q .id) (raisedTo reading))
     (distinct-updated (q .id) (raisedTo reading) (held-keeps (q .id) (raisedTo reading) (raise-keeps reading)) rs ∙ differ)
     (each-updated (q .id) (raisedTo reading) differ each (λ held. each-held (q .id) each held) (λ r other mine. mine))
-
--- a start on a buffer of an image's length is not refused
-start-done : (s : List ℕ) (clock : GlobalClock) → length s ≡ imageLen → startCall s clock .figures .number ≡ 0
-unfolding startCall
-start-done s clock long =
-    ap (λ (b : Bool). cond {A = Settled} b
-    (record { figures = record { number = 0; value = clock .0 }; image = encode (started clock) })
-    (record { figures = record { number = 14; value = 0 }; image = s }) .figures .number)
-    (eq-eqb (length s) imageLen long)
 
 -- D is the whole of the desk's list, d what stands of it before a place; Right says which counters were opened truly
 module _ (first : GlobalClock) (signed : Signatures) (D : List Item) (Right : CounterId → Type 0) where
@@ -312,7 +303,7 @@ module _ (first : GlobalClock) (signed : Signatures) (D : List Item) (Right : Co
         → ((k : Confirmation) (verdict : ℕ) → c ≡ HostCall.«open» k verdict → settledBy s c .figures .number ≡ 0 → Opens k)
         → AtOne (settledBy s c .image) (owedBy s owed c) d
     call-at-one (HostCall.start clock) widths duty opens =
-        start-at-one s d clock (one .kept .long) widths (duty (start-done s clock (one .kept .long)))
+        start-at-one s d clock (one .kept .long) widths (duty (ap (λ (r : Settled). r .figures .number) (start-settled s clock (one .kept .long))))
     call-at-one (HostCall.«open» k verdict) widths duty opens =
         stored (openRefusal (decode s) k verdict) _ (opened (decode s) k) (open-steady s (one .kept) k verdict widths)
         (λ done. behind-opened h d (decode s) (one .behind) k

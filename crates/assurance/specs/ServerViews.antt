@@ -45,7 +45,8 @@ module _ (first : GlobalClock) (buffer : List ℕ) (l : List ServerItem) (long :
 
   -- where the server was honest up to a proof, every station whose noes are true accepts it from then on
   pub station-accepts : (signed : Signatures) (i : ℕ) (c : HostCall) (p : Call) → Honest first signed buffer l i → ItemAt l i (host c)
-      → Writes (imageAt buffer first l i) c p → (m : ℕ) → length (deskAt l i) ≤ m → (v : List ℕ) → TrueNo first signed (deskList l) m (withVerdicts p v) → Accepted (withVerdicts p v)
+      → Writes (imageAt buffer first l i) c p → (m : ℕ) → length (deskAt l i) ≤ m → (v : List ℕ) → TrueNo first signed (deskList l) m (withVerdicts p v)
+      → Accepted (withVerdicts p v)
   station-accepts signed i c p honest stands writes m later v true-no =
       let there = server-claim first signed buffer l long small typed i c p honest stands writes .0 m later in
       subst (λ (w : List ℕ). Accepted (withVerdicts p w)) (sym (there .1 v true-no)) (there .0 .accepted)

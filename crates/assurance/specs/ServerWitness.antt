@@ -31,8 +31,10 @@ use Rattle.assurance.specs.Places.{Stands, Done, begun-image, signed, sh
 use Rattle.assurance.specs.ServerAlong.{Asking, AlongBut, along-at, OpensItem}
 use Rattle.assurance.specs.ServerDay.{seven, nine, signing, room, proving, lasting, seven-image, both-image, raised-image, ticked-image, proved-image, lasted-image, confirmed-image, closed-image, again-image, shown-image, ahead-image, restarted-image, reopened-image, ticked-here, prove-first, prove-second, again-here, prove-third, reopened-here, prove-fourth, proofAt, first-call, second-call, third-call, fourth-call, day, honest-day, AskedFrom, day-typed}
 use Rattle.assurance.specs.ServerLaws.{image-append}
-use Rattle.assurance.specs.ServerList.{host, deskList, hostList, imageAfter, owedAfter, imageAt, deskAt, Tells, OpenedTruly, Writes, Borne}
+use Rattle.assurance.specs.ServerList.{host, deskList, hostList, imageAfter, owedAfter, imageAt, deskAt, Tells, OpenedTruly, Writes, Borne, TrueNo}
 use Rattle.assurance.specs.ServerProof.{server-claim, shown-tells}
+use Rattle.assurance.specs.ServerStation.{ones-true-no}
+use Rattle.assurance.specs.ServerWritten.{prove-written}
 
 -- ---- where the proofs are written
 
@@ -125,6 +127,13 @@ third-borne =
     let claimed = server-claim (globalClock 100) signing blank day blank-long (lit< tt) day-typed 18 (proving 5) third-call (honest-day 18) refl
     (subst (λ (s : List ℕ). Writes s (proving 5) third-call) (sym third-place) (ap (λ (f : Figures). f .number) (prove-third .answers), refl)) in
     (claimed .0 9 (omega arith) .0, claimed .1 opened)
+
+-- a station that says yes to all of it says no untrue no: what the claim supposes of a station can be met
+pub third-told : TrueNo (globalClock 100) signing (deskList day) 9 third-call
+third-told =
+    let written = prove-written again-image (again-here .kept) (nonceOf 5) nine room third-call (lit< tt)
+    (ap (λ (f : Figures). f .number) (prove-third .answers), refl) .1 in
+    ones-true-no (globalClock 100) signing (deskList day) 9 third-call (written .accepted) (written .verdicts)
 
 -- ---- the fourth proof
 

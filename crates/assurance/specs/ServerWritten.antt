@@ -46,7 +46,8 @@ pub record Written (p : Call) (kind : Kind) (k : Confirmation) (es : List Entry)
 
 -- it reads back from fields that the desk takes
 pub set-down : (p : Call) (fields : Fields) (kind : Kind) (k : Confirmation) (es : List Entry) (running : Running) (closing : GlobalClock)
-    → p .verdicts ≡ allYes fields → Taken (p .proof) fields (p .id) (p .nonce) running closing → parsed (encode fields) ≡ Parsed.Proof (record { kind = kind; count = length es })
+    → p .verdicts ≡ allYes fields → Taken (p .proof) fields (p .id) (p .nonce) running closing
+    → parsed (encode fields) ≡ Parsed.Proof (record { kind = kind; count = length es })
     → confirmation (encode fields) ≡ k → EntriesFit es → drop (logOffset kind) (encode fields) ≡ logBytes es → Written p kind k es closing
 set-down p fields kind k es running closing all-yes fair reads confirms fit back =
     let shown-is = ap (λ (v : List ℕ). figures (verified (p .proof) v (p .id) (p .nonce))) all-yes ∙ fair .accepted in
