@@ -28,11 +28,13 @@ use Rattle.log_image.specs.Sound.{after, base, holds, oldest}
 use Rattle.log_image.specs.State.{Record, State, decode, encode}
 use Rattle.desk.specs.Desk.{allYes, verified}
 use Rattle.desk.specs.declared.answer.Answer.{Answer}
-use Rattle.host.specs.EachRecordLaws.{Keeps, confirmation-keeps, held-keeps, holds-updated, raise-keeps}
+use Rattle.log_store.specs.Laws.EachRecordLaws.{Keeps, confirmation-keeps, held-keeps, holds-updated, raise-keeps}
 use Rattle.host.specs.HeldLaws.{current-stored}
-use Rattle.host.specs.Host.{Settled, confirmCall, confirmedBy, confirmedState, counted, currentOf, entriesOf, heldOf, incremented, proofOf, proveCall, proveRefusal, proved, raisedBy, raisedTo, recordOf, replaced, requestRefusal, runningOf, settled, updated}
-use Rattle.host.specs.RecordOfLaws.{record-updated}
-use Rattle.host.specs.RecordStores.{record-of-fits}
+use Rattle.host.specs.Host.{Settled, confirmCall, confirmedState, counted, currentOf, entriesOf, heldOf, proofOf, proveCall, proveRefusal, replaced, requestRefusal, runningOf, settled}
+use Rattle.log_store.specs.Effect.{confirmedBy, incremented, proved, raisedBy, raisedTo, updated}
+use Rattle.log_image.specs.Sound.{recordOf}
+use Rattle.log_store.specs.Laws.RecordOfLaws.{record-updated}
+use Rattle.log_store.specs.Laws.RecordStores.{record-of-fits}
 use Rattle.host.specs.SettledLaws.{settled-done, settled-refused}
 use Rattle.host.specs.SoundParts.{sound-parts}
 use Rattle.console.specs.Step.{emptyOutput, yes, yesFor}

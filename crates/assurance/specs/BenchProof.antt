@@ -21,9 +21,11 @@ use Rattle.forms.specs.declared.terms.GlobalClock.{GlobalClock}
 use Rattle.log_image.specs.ImageRoundTrip.{decode-encode}
 use Rattle.log_image.specs.Sound.{after, base, holds}
 use Rattle.log_image.specs.State.{Record, State, decode, encode}
-use Rattle.host.specs.EachRecordLaws.{holds-snoc}
-use Rattle.host.specs.Host.{Settled, currentOf, openCall, openRefusal, opened, recordOf}
-use Rattle.host.specs.RecordOfLaws.{record-before, record-behind}
+use Rattle.log_store.specs.Laws.EachRecordLaws.{holds-snoc}
+use Rattle.host.specs.Host.{Settled, currentOf, openCall, openRefusal}
+use Rattle.log_store.specs.Effect.{opened}
+use Rattle.log_image.specs.Sound.{recordOf}
+use Rattle.log_store.specs.Laws.RecordOfLaws.{record-before, record-behind}
 use Rattle.host.specs.SettledLaws.{settled-done, settled-refused}
 use Rattle.console.specs.Step.{yes}
 use Rattle.bench.specs.Act.{Acted, acted}

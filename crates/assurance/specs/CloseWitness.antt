@@ -21,7 +21,9 @@ use Rattle.grammar.specs.declared.command.Arguments.{Arguments}
 use Rattle.grammar.specs.declared.command.Command.{Command}
 use Rattle.log_image.specs.Sound.{holds, oldest, after, ending}
 use Rattle.log_image.specs.State.{Record, State}
-use Rattle.host.specs.Host.{Settled, recordOf, openRefusal, askedFrom, judgeNext, judgedBatch, updated, entryOf, raisedBy, without, proofOf, openCall, proveOutput}
+use Rattle.host.specs.Host.{Settled, openRefusal, askedFrom, judgeNext, judgedBatch, proofOf, openCall, proveOutput}
+use Rattle.log_image.specs.Sound.{recordOf}
+use Rattle.log_store.specs.Effect.{updated, entryOf, raisedBy, without}
 use Rattle.host.specs.SettledLaws.{settled-refused}
 use Rattle.console.specs.Step.{ran}
 use Rattle.assurance.specs.HostList.{HostCall, settledBy, Taken, Fair, Runs}

@@ -32,10 +32,12 @@ use Rattle.log_image.specs.ImageParts.{bytes-append}
 use Rattle.log_image.specs.ImageRoundTrip.{StateFits, decode-encode, encode-sound}
 use Rattle.log_image.specs.Sound.{holds, oldest, after, ending, soundState}
 use Rattle.log_image.specs.State.{State, recordsBytes, headerOf, decode, encode}
-use Rattle.host.specs.Host.{requestNonce, Settled, recordOf, runningOf, hasEntry, openRefusal, badBatch, batchRefusal, askedFrom, asked as askedBy, Batch, judgeNext, judgedBatch, readRefusal, started, opened, updated, raisedBy, incremented, counted, proofOf, lastEntries, lastOf, settled, answered, startCall, openCall, incrementCall, readCall, proveCall, lastCall, proveOutput, lastOutput, proveRefusal, lastRefusal}
+use Rattle.host.specs.Host.{requestNonce, Settled, runningOf, hasEntry, openRefusal, badBatch, batchRefusal, askedFrom, asked as askedBy, Batch, judgeNext, judgedBatch, readRefusal, counted, proofOf, lastEntries, lastOf, settled, answered, startCall, openCall, incrementCall, readCall, proveCall, lastCall, proveOutput, lastOutput, proveRefusal, lastRefusal}
+use Rattle.log_image.specs.Sound.{recordOf}
+use Rattle.log_store.specs.Effect.{started, opened, updated, raisedBy, incremented}
 use Rattle.host.specs.CountLaws.{counted-sound, counted-fits}
 use Rattle.host.specs.DisplayLaws.{display-reads}
-use Rattle.host.specs.IncrementStores.{batch-fits}
+use Rattle.host.specs.BatchLaws.{batch-fits}
 use Rattle.host.specs.OpenLaws.{opened-sound}
 use Rattle.host.specs.RaiseLaws.{started-sound, incremented-sound}
 use Rattle.host.specs.SettledLaws.{answered-done, settled-done}

@@ -27,13 +27,15 @@ use Rattle.log_image.specs.ImageRoundTrip.{StateFits, length-encode, encode-byt
 use Rattle.log_image.specs.Sound.{base, soundState, sound}
 use Rattle.log_image.specs.State.{State, decode, encode}
 use Rattle.host.specs.CloseLaws.{closed-sound}
-use Rattle.host.specs.CloseStores.{without-fits}
+use Rattle.log_store.specs.Laws.RemoveStores.{without-fits}
 use Rattle.host.specs.ConfirmLaws.{confirmed-sound}
-use Rattle.host.specs.ConfirmStores.{replacedState, replaced-fits}
+use Rattle.log_store.specs.Laws.RecordStores.{replacedState, replaced-fits}
 use Rattle.host.specs.CountLaws.{counted-sound, counted-fits}
-use Rattle.host.specs.EffectLaws.{clock-runs, entry-room, record-room}
-use Rattle.host.specs.Host.{Settled, openRefusal, tickRefusal, badBatch, batchRefusal, asked, judgedBatch, confirmRefusal, closeRefusal, openRows, tickRows, readRows, proveRows, lastRows, confirmRows, closeRows, started, opened, raised, incremented, noneHeld, advanced, ticked, counted, confirmedState, withRecords, without, closedState, answered, settled, startCall, incrementCall, readRefusal, currentOf, proofOf, lastOf, proveRefusal, lastRefusal, readCall}
-use Rattle.host.specs.IncrementStores.{raised-fits, batch-fits}
+use Rattle.host.specs.FittingLaws.{clock-runs, entry-room, record-room}
+use Rattle.host.specs.Host.{Settled, openRefusal, tickRefusal, badBatch, batchRefusal, asked, judgedBatch, confirmRefusal, closeRefusal, openRows, tickRows, readRows, proveRows, lastRows, confirmRows, closeRows, noneHeld, ticked, counted, confirmedState, closedState, answered, settled, startCall, incrementCall, readRefusal, currentOf, proofOf, lastOf, proveRefusal, lastRefusal, readCall}
+use Rattle.log_store.specs.Effect.{started, opened, raised, incremented, advanced, withRecords, without}
+use Rattle.log_store.specs.Laws.RaiseStores.{raised-fits}
+use Rattle.host.specs.BatchLaws.{batch-fits}
 use Rattle.host.specs.OpenLaws.{opened-sound}
 use Rattle.host.specs.RaiseLaws.{started-sound, incremented-sound, ticked-sound}
 use Rattle.host.specs.RefusalLaws.{open-passed, tick-passed, close-passed}

@@ -21,9 +21,11 @@ use Rattle.log_image.specs.ImageRoundTrip.{decode-encode, sound-decode}
 use Rattle.log_image.specs.Sound.{holds, distinct}
 use Rattle.log_image.specs.State.{Record, State, decode}
 use Rattle.host.specs.DoneLaws.{settled-passed, value-given}
-use Rattle.host.specs.EachRecordLaws.{Keeps, held-keeps, raise-keeps, confirmation-keeps, holds-updated, holds-snoc}
-use Rattle.host.specs.Host.{Settled, recordOf, updated, proved, raisedTo, raisedBy, confirmedBy, opened, raised, incremented, advanced, ticked, noneHeld, counted, closedState, answered, settled, startCall, incrementCall, readCall, openRefusal, tickRefusal, batchRefusal, asked, judgedBatch, proveRefusal, lastRefusal, confirmRefusal, closeRefusal}
-use Rattle.host.specs.RecordOfLaws.{record-updated, record-before, record-behind, holds-taken, holds-left, record-left}
+use Rattle.log_store.specs.Laws.EachRecordLaws.{Keeps, held-keeps, raise-keeps, confirmation-keeps, holds-updated, holds-snoc}
+use Rattle.host.specs.Host.{Settled, ticked, noneHeld, counted, closedState, answered, settled, startCall, incrementCall, readCall, openRefusal, tickRefusal, batchRefusal, asked, judgedBatch, proveRefusal, lastRefusal, confirmRefusal, closeRefusal}
+use Rattle.log_image.specs.Sound.{recordOf}
+use Rattle.log_store.specs.Effect.{updated, proved, raisedTo, raisedBy, confirmedBy, opened, raised, incremented, advanced}
+use Rattle.log_store.specs.Laws.RecordOfLaws.{record-updated, record-before, record-behind, holds-taken, holds-left, record-left}
 use Rattle.host.specs.RefusalLaws.{open-passed, close-passed}
 use Rattle.host.specs.SettledLaws.{settled-refused, settled-done}
 use Rattle.host.specs.SoundParts.{sound-parts}

@@ -18,7 +18,9 @@ use Rattle.forms.specs.declared.terms.CounterId.{CounterId}
 use Rattle.validity.specs.Proof.{fieldsLen}
 use Rattle.log_image.specs.Sound.{holds, oldest, after, ending}
 use Rattle.log_image.specs.State.{Record, State}
-use Rattle.host.specs.Host.{Settled, recordOf, askedFrom, judgeNext, judgedBatch, proveRefusal, proofOf, updated, entryOf, raisedBy, without, closeCall}
+use Rattle.host.specs.Host.{Settled, askedFrom, judgeNext, judgedBatch, proveRefusal, proofOf, closeCall}
+use Rattle.log_image.specs.Sound.{recordOf}
+use Rattle.log_store.specs.Effect.{updated, entryOf, raisedBy, without}
 use Rattle.host.specs.SettledLaws.{settled-refused}
 use Rattle.host.specs.declared.answer.Figures.{Figures}
 use Rattle.assurance.specs.HostList.{HostCall, settledBy, Widths}

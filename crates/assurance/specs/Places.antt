@@ -20,7 +20,9 @@ use Rattle.log_image.specs.FitLaws.{start-fits, entries-fit-drop, entries-fit-t
 use Rattle.log_image.specs.ImageRoundTrip.{decode-encode, decode-fits, sound-laid-out}
 use Rattle.log_image.specs.Sound.{base, after}
 use Rattle.log_image.specs.State.{State, decode}
-use Rattle.host.specs.Host.{Settled, recordOf, heldOf, entriesOf, openRefusal, tickRefusal, batchRefusal, asked, judgedBatch, proveRefusal, lastRefusal, confirmRefusal, closeRefusal, readRefusal, runningOf, started, opened, incremented, ticked, counted, confirmedState, closedState, proofOf, lastEntries, lastOf, proveOutput, answered, settled, startCall}
+use Rattle.host.specs.Host.{Settled, heldOf, entriesOf, openRefusal, tickRefusal, batchRefusal, asked, judgedBatch, proveRefusal, lastRefusal, confirmRefusal, closeRefusal, readRefusal, runningOf, ticked, counted, confirmedState, closedState, proofOf, lastEntries, lastOf, proveOutput, answered, settled, startCall}
+use Rattle.log_image.specs.Sound.{recordOf}
+use Rattle.log_store.specs.Effect.{started, opened, incremented}
 use Rattle.host.specs.RaiseLaws.{started-sound}
 use Rattle.host.specs.SettledLaws.{answered-done, settled-done}
 use Rattle.host.specs.declared.answer.Figures.{Figures}

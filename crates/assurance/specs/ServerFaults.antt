@@ -19,7 +19,9 @@ use Rattle.history.specs.History.{list, increment, read, carried, increments, c
 use Rattle.history.specs.Value.{Signatures}
 use Rattle.log_image.specs.Sound.{holds, oldest, after, ending}
 use Rattle.log_image.specs.State.{State, decode}
-use Rattle.host.specs.Host.{recordOf, heldOf, hasEntry, asked, askedFrom, judgeNext, judgedBatch, updated, raisedBy, counted, lastEntries, startCall, incrementCall}
+use Rattle.log_image.specs.Sound.{recordOf}
+use Rattle.host.specs.Host.{heldOf, hasEntry, asked, askedFrom, judgeNext, judgedBatch, counted, lastEntries, startCall, incrementCall}
+use Rattle.log_store.specs.Effect.{updated, raisedBy}
 use Rattle.host.specs.declared.answer.Figures.{Figures}
 use Rattle.assurance.specs.CloseWitness.{seven, recordWith, state, single, single-bytes, raising, raiseAt, room, raised, holding-image, raised-image, holding-here, raised-here}
 use Rattle.assurance.specs.DeskList.{Call, event, confirmed, At, history}

@@ -14,7 +14,7 @@ use Rattle.history.specs.History.{HistoryEvent, list, increment, read, clockAft
 use Rattle.history.specs.HistoryLaws.{increment-stays, made-within, stands-made}
 use Rattle.history.specs.ReadLaws.{read-keeps-increment}
 use Rattle.history.specs.Value.{Signatures}
-use Rattle.host.specs.EachRecordLaws.{Each}
+use Rattle.log_store.specs.Laws.EachRecordLaws.{Each}
 use Rattle.assurance.specs.DeskList.{Item}
 use Rattle.assurance.specs.HostList.{HostCall, settledBy}
 use Rattle.assurance.specs.ServerList.{ServerItem, host, beside, ItemAt, deskList, hostList, imageAfter, owedBy, paidBy, owedAfter, AllSigned}

@@ -18,7 +18,7 @@ use Rattle.validity.specs.declared.proof.Proof.{Proof}
 use Rattle.history.specs.History.{clockAfter, ReadStands}
 use Rattle.history.specs.Value.{Signatures}
 use Rattle.log_image.specs.State.{decode}
-use Rattle.host.specs.EachRecordLaws.{Each}
+use Rattle.log_store.specs.Laws.EachRecordLaws.{Each}
 use Rattle.assurance.specs.Accepted.{countOf, accepted-passed}
 use Rattle.assurance.specs.DeskFreshness.{accepted-reached}
 use Rattle.assurance.specs.DeskList.{Call, Item, confirmed, At, history, kindOf, Truth}

@@ -37,9 +37,11 @@ use Rattle.log_image.specs.State.{State, decode}
 use Rattle.desk.specs.Answer.{figures}
 use Rattle.desk.specs.Desk.{certificate, allYes}
 use Rattle.desk.specs.declared.answer.Figures.{Figures as DeskFigures}
-use Rattle.host.specs.EachRecordLaws.{Each}
-use Rattle.host.specs.EffectLaws.{entry-of-fits}
-use Rattle.host.specs.Host.{Asked, recordOf, asked, askedFrom, batchRefusal, judgeNext, judgedBatch, updated, raisedBy, counted, incrementCall}
+use Rattle.log_store.specs.Laws.EachRecordLaws.{Each}
+use Rattle.log_store.specs.Laws.RaiseStores.{entry-of-fits}
+use Rattle.host.specs.Host.{Asked, asked, askedFrom, batchRefusal, judgeNext, judgedBatch, counted, incrementCall}
+use Rattle.log_image.specs.Sound.{recordOf}
+use Rattle.log_store.specs.Effect.{updated, raisedBy}
 use Rattle.host.specs.declared.answer.Figures.{Figures}
 use Rattle.assurance.specs.AcceptLaws.{SetOut, Wanted, taken, read-back, read-accepted}
 use Rattle.assurance.specs.CloseWitness.{seven, nine, recordWith, state, raiseAt, room, holding-image, holding-here}

@@ -29,7 +29,7 @@ use Rattle.history.specs.Walk.{pass, walk}
 use Rattle.log_image.specs.Sound.{base, after, consecutive, proper, allProper, holds, soundState}
 use Rattle.log_image.specs.ImageRoundTrip.{StateFits}
 use Rattle.log_image.specs.State.{State}
-use Rattle.host.specs.EachRecordLaws.{Each, each-drop, each-take}
+use Rattle.log_store.specs.Laws.EachRecordLaws.{Each, each-drop, each-take}
 use Rattle.host.specs.HeldLaws.{held-within, entries-consecutive}
 use Rattle.host.specs.Host.{heldOf, entriesOf}
 use Rattle.host.specs.Host.{valueAt as hostValueAt}

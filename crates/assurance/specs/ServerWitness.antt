@@ -21,7 +21,8 @@ use Rattle.log_image.specs.State.{State}
 use Rattle.desk.specs.Answer.{figures}
 use Rattle.desk.specs.Desk.{allYes, verified}
 use Rattle.desk.specs.declared.answer.Figures.{Figures as DeskFigures}
-use Rattle.host.specs.Host.{recordOf, runningOf, readRefusal, proofOf, startCall, proveOutput}
+use Rattle.log_image.specs.Sound.{recordOf}
+use Rattle.host.specs.Host.{runningOf, readRefusal, proofOf, startCall, proveOutput}
 use Rattle.host.specs.declared.answer.Figures.{Figures}
 use Rattle.assurance.specs.DeskList.{confirmed, At, history, shown, Opening, Sound}
 use Rattle.assurance.specs.HostList.{HostCall, settledBy}

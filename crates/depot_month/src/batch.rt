@@ -8,7 +8,7 @@ use forms::event::ROOM;
 use forms::request::Request;
 use forms::terms::GlobalClock;
 use host::answer::BatchFigures;
-use host::batch::increment;
+use host::increment::increment;
 use text::part::between;
 use text::part::front;
 

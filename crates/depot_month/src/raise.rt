@@ -13,8 +13,8 @@ use crate::tally;
 use forms::terms::GlobalClock;
 use host::answer::BatchFigures;
 use host::answer::Figures;
-use host::raise::tick;
 use host::read::read;
+use host::tick::tick;
 
 pub(crate) fn ticked(image: &mut [u8], books: &mut [u8]) {
     let nonce = tally::nonce(books, 0);

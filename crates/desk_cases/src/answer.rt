@@ -18,7 +18,7 @@ use text::line::put_filled;
 use text::line::put_words;
 use text::part::front;
 use validity::proof::Proof;
-use vmc::dock::vmc_desk_verify;
+use vmc::vmc_desk::vmc_desk_verify;
 ghost use Prim.Native.Nat.{_≤_};
 
 // Room for a nonce that is one byte too long.

@@ -1,4 +1,4 @@
--- Requests as bytes: how the code holds those of a batch that passed, and its batch half judged. Assumes nothing.
+-- How the code holds a batch half judged: the numbers in their places, and those that passed, joined. Assumes nothing.
 use Prim.Native.Nat.{ℕ, _+_, _-_, _*_, _/_, _%_, _≤_}
 use mathlib.Core.Path.{_≡_}
 use mathlib.Core.Bool.{Bool, true, cond, _&&_}
@@ -13,19 +13,6 @@ use Rattle.log_image.specs.Sound.{holds}
 use Rattle.log_image.specs.State.{Record}
 use Rattle.host.specs.Host.{Batch}
 use Rattle.host.specs.declared.batch.Judged.{Judged}
-
--- bytes that are some requests joined, no more than an increment carries
-abbrev pub Joined : List ℕ → Type 0
-Joined s = (length s % requestLen ≡ 0) × (length s ≤ requestLen * maxRequests)
-
--- and those requests
-abbrev pub joinedRequests : List ℕ → List Request
-joinedRequests s = requestsAt s 0 (length s / requestLen)
-
--- every one of some requests is for a held counter
-unfoldable pub allHeld : List Record → List Request → Bool
-allHeld rs [] = true
-allHeld rs (q ∷ qs) = holds rs (q .id) && allHeld rs qs
 
 -- before the first request
 abbrev pub unjudged : Judged

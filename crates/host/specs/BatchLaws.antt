@@ -1,6 +1,6 @@
 -- A batch: what it is like where it is not refused as a whole, and what holds of its requests that passed. Each names a held counter, which is not 0
 -- and which no other of them names, and states its current value; there is room for them; and the clock can rise if there are any. Assumes nothing.
-use mathlib.Core.Path.{_≡_, refl, sym, ap, ap₂, _∙_}
+use mathlib.Core.Path.{_≡_, refl, sym, ap, ap₂, subst, _∙_}
 use Prim.Native.Nat.{ℕ, zero, suc, _+_, _*_, _/_, _%_, _≤_, _<_}
 use native.Mathlib.Nat.{add-zero, div-add-mod'}
 use native.Mathlib.Omega.{arith}
@@ -10,7 +10,7 @@ use lib.Dec.{eqb}
 use lib.ListN.{length, length-append}
 use borrow.Author.Tests.{eqb-true, eqb-false, ne-eqb, ltb-false, not-false}
 use Rattle.forms.specs.Bytes.{Bytes}
-use Rattle.forms.specs.Entry.{units}
+use Rattle.forms.specs.Entry.{units, unitsOf}
 use Rattle.forms.specs.Limits.{largest, maxRequests, maxUnits, requestLen}
 use Rattle.forms.specs.Request.{RequestFits, RequestsFit, none, one-more, names, beforeOf, namesTwice}
 use Rattle.forms.specs.RequestLaws.{names-append, request-fit, requests-fit-append}
@@ -19,10 +19,13 @@ use Rattle.forms.specs.TermsLaws.{same-id, same-turned}
 use Rattle.forms.specs.TestsLaws.{both, neither}
 use Rattle.forms.specs.declared.request.Request.{Request}
 use Rattle.forms.specs.declared.terms.CounterId.{CounterId}
+use Rattle.log_image.specs.ImageRoundTrip.{StateFits}
 use Rattle.log_image.specs.Sound.{holds}
 use Rattle.log_image.specs.State.{Record, State}
-use Rattle.host.specs.Batch.{allHeld}
-use Rattle.host.specs.Host.{currentOf, requestRefusal, badBatch, Asked, askedFrom, Batch, noneJudged, judgeNext, judgedBatch}
+use Rattle.log_store.specs.Effect.{incremented}
+use Rattle.log_store.specs.Laws.Joined.{allHeld}
+use Rattle.log_store.specs.Laws.RaiseStores.{incremented-fits, raised-fits}
+use Rattle.host.specs.Host.{currentOf, requestRefusal, badBatch, Asked, asked, askedFrom, Batch, noneJudged, judgeNext, judgedBatch}
 use Rattle.host.specs.RefusalLaws.{RequestPassed, request-passed}
 
 -- ---- a batch that is not refused as a whole
@@ -206,3 +209,25 @@ all-fit st b (a ∷ batch) fits before = all-fit st (judgeNext st b a) batch (fi
 pub passed-fit : (st : State) (requests verdicts : List ℕ) (i n : ℕ) → Bytes requests → RequestsFit (judgedBatch st (askedFrom requests verdicts i n) .passed)
 unfolding judgedBatch
 passed-fit st requests verdicts i n bytes = all-fit st noneJudged (askedFrom requests verdicts i n) (asked-fit requests verdicts i n bytes) none
+
+-- ---- what passed fits an image
+
+-- requests count as many units as they are
+pub units-some : (count : ℕ) → 0 < count → unitsOf count ≡ count
+units-some count some = ap (λ (b : Bool). cond b 1 count) (ne-eqb count 0 (λ none. omega arith))
+
+-- the state after a batch of which some request passed
+pub batch-fits : (st : State) (requests verdicts : List ℕ) → StateFits st → Bytes requests → badBatch requests verdicts ≡ false →
+    let qs = judgedBatch st (asked requests verdicts) .passed in
+    0 < length qs → StateFits (incremented st qs)
+batch-fits st requests verdicts fits bytes good some =
+    let count = length requests / requestLen in
+    let batch = asked requests verdicts in
+    let qs = judgedBatch st batch .passed in
+    let p = batch-passed st batch in
+    let room : units (st .log) + length qs ≤ maxUnits = p .room (fits .units) in
+    let runs : st .clock .0 < largest = omega (arith, fits .clock, p .running some) in
+    incremented-fits st qs
+    (raised-fits st qs fits (passed-fit st requests verdicts 0 count bytes)
+    (omega (arith, passed-few st batch, length-asked requests verdicts 0 count, good-batch requests verdicts good .few))
+    runs (subst (λ (n : ℕ). units (st .log) + n ≤ maxUnits) (sym (units-some (length qs) some)) room))

@@ -7,10 +7,12 @@ use Rattle.forms.specs.Chain.{chains, valueAfter}
 use Rattle.forms.specs.declared.confirmation.Confirmation.{Confirmation}
 use Rattle.log_image.specs.State.{State}
 use Rattle.log_image.specs.Sound.{base, after, soundState}
-use Rattle.host.specs.Host.{recordOf, confirmedBy, replaced, confirmedState, confirmRefusal}
+use Rattle.log_image.specs.Sound.{recordOf}
+use Rattle.log_store.specs.Effect.{confirmedBy}
+use Rattle.host.specs.Host.{replaced, confirmedState, confirmRefusal}
 use Rattle.host.specs.HeldLaws.{later-chains, later-end, current-stored}
 use Rattle.host.specs.CutLaws.{Recut, cut-parts}
-use Rattle.host.specs.EachRecordLaws.{each-updated, oldest-updated, distinct-updated, confirmation-keeps}
+use Rattle.log_store.specs.Laws.EachRecordLaws.{each-updated, oldest-updated, distinct-updated, confirmation-keeps}
 use Rattle.host.specs.RefusalLaws.{ConfirmPassed, confirm-passed}
 use Rattle.host.specs.SoundParts.{Chained, SoundState, sound-parts, sound-whole}
 

@@ -7,9 +7,10 @@ use Rattle.forms.specs.declared.terms.CounterId.{CounterId}
 use Rattle.log_image.specs.ImageRoundTrip.{StateFits}
 use Rattle.log_image.specs.Sound.{base, consecutive, soundState}
 use Rattle.log_image.specs.State.{State}
-use Rattle.host.specs.EachRecordLaws.{Each, each-held, each-updated, distinct-updated, held-keeps, KeepsHeld, oldest-kept}
-use Rattle.host.specs.Host.{proved, counted}
-use Rattle.host.specs.RecordStores.{record-of-fits, updated-fits}
+use Rattle.log_store.specs.Laws.EachRecordLaws.{Each, each-held, each-updated, distinct-updated, held-keeps, KeepsHeld, oldest-kept}
+use Rattle.log_store.specs.Effect.{proved}
+use Rattle.host.specs.Host.{counted}
+use Rattle.log_store.specs.Laws.RecordStores.{record-of-fits, updated-fits}
 use Rattle.host.specs.SoundParts.{Chained, SoundState, sound-parts, sound-whole}
 
 keeps : KeepsHeld proved

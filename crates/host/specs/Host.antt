@@ -1,7 +1,7 @@
 -- The host's calls: document 01, "The host", and document 02: Note 4, "close", Note 6, the proofs counted for each counter, and Note 7, several
 -- requests under one increment. Each is a row of refusals in the order of its numbers, a value and the state after it; on refusal the image stays as
--- it was. Assumes nothing.
-use Prim.Native.Nat.{ℕ, zero, suc, _+_, _-_, _*_, _/_, _%_, min}
+-- it was. What a store makes of a state is said in `log_store`. Assumes nothing.
+use Prim.Native.Nat.{ℕ, zero, suc, _+_, _-_, _*_, _/_, _%_}
 use mathlib.Core.Bool.{Bool, false, not, cond, _&&_, _||_}
 use mathlib.Core.List.{List, [], _∷_, _++_, foldl}
 use lib.Dec.{eqb, ltb}
@@ -11,28 +11,20 @@ use Rattle.forms.specs.declared.running.Running.{Running}
 use Rattle.forms.specs.Checks.{Row, _gives_, firstOf}
 use Rattle.forms.specs.Entry.{Entry, logBytes, units}
 use Rattle.forms.specs.Limits.{largest, nonceLen, imageLen, maxCounters, maxRequests, maxUnits, requestLen}
-use Rattle.forms.specs.Record.{taken}
 use Rattle.forms.specs.Request.{names, nonceOf, requestAt}
-use Rattle.forms.specs.Terms.{counterId, globalClock, sameId}
 use Rattle.forms.specs.declared.confirmation.Confirmation.{Confirmation}
 use Rattle.forms.specs.declared.request.Request.{Request}
 use Rattle.forms.specs.declared.terms.CounterId.{CounterId}
 use Rattle.forms.specs.declared.terms.GlobalClock.{GlobalClock}
 use Rattle.validity.specs.Proof.{Fields, fieldsLen, read, increment, encode as proofBytes}
-use Rattle.digest.specs.Seal.{digestOf}
 use Rattle.log_image.specs.State.{Record, State, decode, encode}
-use Rattle.log_image.specs.Sound.{holds, oldest, base, after, ending, sound}
-use Rattle.host.specs.declared.change.Change.{Change}
+use Rattle.log_image.specs.Sound.{holds, recordOf, base, after, ending, sound}
+use Rattle.log_store.specs.Effect.{cutTo, updated, updatedState, confirmedBy, proved, started, opened, advanced, raised, incremented, without}
 pub use Rattle.host.specs.declared.answer.Figures.{Figures}
 pub use Rattle.host.specs.declared.answer.ReadFigures.{ReadFigures}
 pub use Rattle.host.specs.declared.answer.BatchFigures.{BatchFigures}
 
 -- ---- what a state says of a counter
-
--- the record of a held counter
-unfoldable pub recordOf : List Record → CounterId → Record
-recordOf [] id = taken (record { id = counterId 0; value = 0; reading = globalClock 0 })
-recordOf (r ∷ rs) id = cond (sameId (r .held .id) id) r (recordOf rs id)
 
 abbrev pub heldOf : State → CounterId → Confirmation
 heldOf st id = recordOf (st .records) id .held
@@ -212,74 +204,9 @@ closeRefusal st c verdict = firstOf (closeRows st c verdict) 0
 
 -- ---- effects
 
--- the state with other records
-abbrev pub withRecords : State → List Record → State
-withRecords st rs = record { clock = st .clock; records = rs; log = st .log }
-
--- and with the log cut to their oldest reading: the entries up to it are no longer needed
-abbrev pub cutTo : State → List Record → State
-cutTo st rs = record { clock = st .clock; records = rs; log = drop (oldest (st .clock) rs - base st) (st .log) }
-
--- the records with that of a counter changed
-unfoldable pub updated : List Record → CounterId → (Record → Record) → List Record
-updated [] id change = []
-updated (r ∷ rs) id change = cond (sameId (r .held .id) id) (change r ∷ rs) (r ∷ updated rs id change)
-
--- and the state with them
-abbrev pub updatedState : State → CounterId → (Record → Record) → State
-updatedState st id change = withRecords st (updated (st .records) id change)
-
--- what a call changes in its counter's record. confirm: the owner's newer confirmation
-abbrev pub confirmedBy : Confirmation → Record → Record
-confirmedBy c r = record { held = c; current = r .current; proofs = r .proofs }
-
--- increment: the new clock as current value
-abbrev pub raisedTo : GlobalClock → Record → Record
-raisedTo reading r = record { held = r .held; current = reading .0; proofs = r .proofs }
-
--- prove and last: "the number of proofs written for that box since opening, .. with the same ceiling", which is 4,294,967,295
-abbrev pub proved : Record → Record
-proved r = record { held = r .held; current = r .current; proofs = min (r .proofs + 1) largest }
-
-abbrev pub changedBy : Change → Record → Record
-changedBy (Change.Confirmed c) = confirmedBy c
-changedBy (Change.Raised reading) = raisedTo reading
-changedBy Change.Proved = proved
-
--- "start writes an image with a given clock, no boxes"
-abbrev pub started : GlobalClock → State
-started clock = record { clock = clock; records = []; log = [] }
-
-abbrev pub opened : State → Confirmation → State
-opened st c = record { clock = st .clock; records = st .records ++ (taken c ∷ []); log = st .log }
-
--- the entry of an increment that reached a reading: the module is given the digest of its requests
-abbrev pub entryOf : GlobalClock → List Request → Entry
-entryOf reading rs = record { reading = reading; nonce = digestOf rs; requests = rs }
-
--- tick and increment: "Clock + 1 and the new entry are stored"
-abbrev pub raised : State → List Request → State
-raised st rs =
-    let next : GlobalClock = globalClock (st .clock .0 + 1) in
-    record { clock = next; records = st .records; log = st .log ++ (entryOf next rs ∷ []) }
-
--- the records of the counters that some requests raise to a reading
-unfoldable pub raisedBy : List Request → GlobalClock → List Record → List Record
-raisedBy [] reading rs = rs
-raisedBy (q ∷ qs) reading rs = raisedBy qs reading (updated rs (q .id) (raisedTo reading))
-
--- increment also changes the records of the counters that it raises
-abbrev pub incremented : State → List Request → State
-incremented st qs =
-    let next : State = raised st qs in
-    withRecords next (raisedBy qs (next .clock) (next .records))
-
 -- "A tick with no box held keeps no entry"
 abbrev pub noneHeld : State → Bool
 noneHeld st = eqb (length (st .records)) 0
-
-abbrev pub advanced : State → State
-advanced st = record { clock = globalClock (st .clock .0 + 1); records = st .records; log = st .log }
 
 abbrev pub ticked : State → State
 ticked st = cond (noneHeld st) (advanced st) (raised st [])
@@ -294,11 +221,6 @@ replaced rs c = updated rs (c .id) (confirmedBy c)
 
 abbrev pub confirmedState : State → Confirmation → State
 confirmedState st c = cutTo st (replaced (st .records) c)
-
--- "The record goes, later ones move up"
-unfoldable pub without : List Record → CounterId → List Record
-without [] id = []
-without (r ∷ rs) id = cond (sameId (r .held .id) id) rs (r ∷ without rs id)
 
 -- "the log is cut to the oldest reading left"; where no record is left, to the clock, so that no entry stays
 abbrev pub closedState : State → CounterId → State

@@ -2,25 +2,17 @@
 use crate::answer::Figures;
 use crate::counter::current_value;
 use crate::counter::is_held;
-use crate::cut::cut;
-use crate::cut::vacate;
 use crate::refusal::bad_confirmation;
 use forms::confirmation::Confirmation;
-use forms::image::Image;
-use forms::number::put_u32;
-use forms::record::Record;
-use forms::terms::CounterId;
-use log_image::header;
 use log_image::header::clock;
-use log_image::header::counter_count;
-use log_image::records::index_of;
-use log_image::records::proofs;
 use log_image::soundness::sound;
+use log_store::log::cut;
+use log_store::records::remove_record;
 ghost use mathlib.Core.Path.{_≡_};
 ghost use mathlib.Core.Bool.{true};
-ghost use Rattle.log_image.specs.Sound.{holds, sound};
-ghost use Rattle.log_image.specs.State.{decode, encode};
-ghost use Rattle.host.specs.Host.{closeCall, closeRefusal, recordOf, withRecords, without};
+ghost use Rattle.log_image.specs.Sound.{sound};
+ghost use Rattle.log_image.specs.State.{decode};
+ghost use Rattle.host.specs.Host.{closeCall, closeRefusal};
 
 // The number of the first refusal of a closing on a sound image, 0 where there is none.
 fn close_refusal(image: &[u8], confirmation: Confirmation, verdict: u32) -> u32
@@ -43,27 +35,6 @@ fn close_refusal(image: &[u8], confirmation: Confirmation, verdict: u32) -> u32
         return 22;
     }
     0
-}
-
-// Takes out a held counter's record: the later ones move up to its place, the place that the last one leaves is cleared, and their count is
-// stored. Answers with the number of proofs that it had.
-fn remove_record(image: &mut [u8], id: CounterId) -> u32
-    requires { ⌜ (sound (now image) ≡ true) × (holds (decode (now image) .records) id ≡ true) ⌝ }
-    ensures { λ r. ⌜ r ≡ recordOf (decode (now (image .entry)) .records) id .proofs ⌝ }
-    ensures { λ _. ⌜ now (image .exit) ≡ encode (withRecords (decode (now (image .entry))) (without (decode (now (image .entry)) .records) id)) ⌝ }
-{
-    let index = index_of(image, id);
-    let proofs = proofs(image, index);
-    let left = counter_count(image) - 1;
-    let behind = Record::LEN * ((left - index) as usize);
-    vacate(
-        image,
-        Image::RECORDS + Record::LEN * (index as usize),
-        Record::LEN,
-        behind,
-    );
-    put_u32(image, header::COUNTERS, left);
-    proofs
 }
 
 // Answers 0 and the number of proofs written for the counter since it was opened, or refuses by 14 to 17, 21 or 22 with value 0 and the image as

@@ -1,15 +1,14 @@
-// The host: keeps the log image. Document 01, "The host".
+// The host: keeps the log image. Document 01, "The host". What a call stores, the crate `log_store` stores.
 pub mod answer;
-pub mod batch;
-mod change;
+mod batch;
 pub mod close;
 pub mod confirm;
 mod counter;
-mod cut;
+pub mod increment;
 pub mod last;
 pub mod open;
 pub mod prove;
-pub mod raise;
 pub mod read;
 mod refusal;
 pub mod start;
+pub mod tick;

@@ -5,23 +5,16 @@ use crate::counter::named_after;
 use crate::refusal::bad_confirmation;
 use crate::refusal::bad_opening;
 use forms::confirmation::Confirmation;
-use forms::image::Image;
-use forms::number::put_u32;
-use forms::record::Record;
-use log_image::header;
 use log_image::header::clock;
-use log_image::header::counter_count;
 use log_image::header::entry_count;
 use log_image::header::table_full;
 use log_image::soundness::sound;
+use log_store::records::add_record;
 ghost use mathlib.Core.Path.{_≡_};
 ghost use mathlib.Core.Bool.{true};
-ghost use Prim.Native.Nat.{_+_, _<_};
-ghost use lib.ListN.{length};
-ghost use Rattle.forms.specs.Limits.{maxCounters};
 ghost use Rattle.log_image.specs.Sound.{sound};
-ghost use Rattle.log_image.specs.State.{decode, encode};
-ghost use Rattle.host.specs.Host.{openCall, openRefusal, opened};
+ghost use Rattle.log_image.specs.State.{decode};
+ghost use Rattle.host.specs.Host.{openCall, openRefusal};
 
 // The number of the first refusal of an opening on a sound image, 0 where there is none.
 fn open_refusal(image: &[u8], confirmation: Confirmation, verdict: u32) -> u32
@@ -52,19 +45,6 @@ fn open_refusal(image: &[u8], confirmation: Confirmation, verdict: u32) -> u32
         return 28;
     }
     0
-}
-
-// Stores the record of a counter behind the others, and answers with how many there are.
-fn add_record(image: &mut [u8], confirmation: Confirmation) -> u32
-    requires { ⌜ (sound (now image) ≡ true) × (length (decode (now image) .records) < maxCounters) ⌝ }
-    ensures { λ r. ⌜ r ≡ length (decode (now (image .entry)) .records) + 1 ⌝ }
-    ensures { λ _. ⌜ now (image .exit) ≡ encode (opened (decode (now (image .entry))) confirmation) ⌝ }
-{
-    let count = counter_count(image);
-    let record = Record::new(confirmation);
-    record.write(image, Image::RECORDS + Record::LEN * (count as usize));
-    put_u32(image, header::COUNTERS, count + 1);
-    count + 1
 }
 
 // Answers 0 and the count of counters, or refuses by 14 to 16, 18 to 21 or 28 with value 0 and the image as it was.

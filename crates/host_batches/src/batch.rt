@@ -5,7 +5,7 @@ use forms::nonce::LEN;
 use forms::request::Request;
 use forms::terms::CounterId;
 use host::answer::BatchFigures;
-use host::batch::increment;
+use host::increment::increment;
 use text::part::front;
 
 // The figures of a request.

@@ -10,10 +10,10 @@ use forms::request::Request;
 use forms::terms::CounterId;
 use forms::terms::GlobalClock;
 use host::answer::Figures;
-use host::batch::increment;
+use host::increment::increment;
 use host::open::open;
-use host::raise::tick;
 use host::read::read;
+use host::tick::tick;
 
 fn none() -> Figures {
     Figures {

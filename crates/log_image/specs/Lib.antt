@@ -15,5 +15,4 @@ pub mod RecordsLaws
 pub mod Sound
 pub mod SoundLaws
 pub mod State
-pub mod StoreLaws
 pub mod ZeroLaws

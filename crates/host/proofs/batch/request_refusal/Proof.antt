@@ -18,7 +18,7 @@ use Rattle.forms.specs.declared.request.Request.{Request}
 use Rattle.forms.specs.declared.terms.CounterId.{CounterId}
 use Rattle.log_image.specs.Sound.{holds}
 use Rattle.log_image.specs.State.{State, decode}
-use Rattle.host.specs.EffectLaws.{found-units}
+use Rattle.host.specs.FittingLaws.{found-units}
 use Rattle.host.specs.Host.{currentOf, requestRows}
 use Rattle.host.proofs.batch.request_refusal.Statement.{statement}
 use Rattle.host.proofs.batch.request_refusal.Tie as tie

@@ -2,20 +2,25 @@
 -- nothing.
 use mathlib.Core.Path.{_≡_, sym, ap, _∙_}
 use mathlib.Core.Bool.{true}
+use mathlib.Core.List.{List}
 use Prim.Native.Nat.{ℕ}
 use native.Mathlib.Omega.{arith}
 use borrow.Author.Needs.{needs}
 use borrow.Author.Tests.{not-true, not-false}
 use Rattle.forms.specs.Bytes.{Bytes}
-use Rattle.log_image.specs.ImageRoundTrip.{decode-fits, sound-laid-out}
-use Rattle.log_image.specs.Sound.{sound}
-use Rattle.log_image.specs.State.{State, decode, encode}
-use Rattle.host.specs.CloseStores.{without-fits}
-use Rattle.host.specs.CutStores.{Uncut, uncut-image}
-use Rattle.host.specs.EachRecordLaws.{oldest-without}
-use Rattle.host.specs.Host.{closeRefusal, recordOf, without, closedState}
+use Rattle.log_image.specs.ImageRoundTrip.{StateFits, sound-decode}
+use Rattle.log_image.specs.Sound.{recordOf, sound}
+use Rattle.log_image.specs.State.{Record, State, decode, encode}
+use Rattle.log_store.specs.Effect.{withRecords, without}
+use Rattle.log_store.specs.Laws.CutStores.{cut-stored}
+use Rattle.log_store.specs.Laws.EachRecordLaws.{oldest-without}
+use Rattle.log_store.specs.Laws.RemoveStores.{removed-proofs, removed-stored, without-fits}
+use Rattle.log_store.specs.Store.{logCut, proofsOf, recordRemoved}
+use Rattle.host.specs.FittingLaws.{image-of, state-fits}
+use Rattle.host.specs.Host.{closeRefusal, closedState}
 use Rattle.host.specs.RefusalLaws.{ClosePassed, close-passed}
 use Rattle.host.specs.SettledLaws.{ends-unsound, ends-refused, ends-done}
+use Rattle.host.specs.SoundParts.{sound-parts}
 use Rattle.host.proofs.close.close.Statement.{statement}
 use Rattle.host.proofs.close.close.Tie as tie
 
@@ -69,19 +74,38 @@ passed c =
 abbrev left-of : tie.After-remove-record → tie.Else2
 left-of c = c .before .before
 
+-- the records left, and the image with them
+abbrev others : tie.Start → List Record
+others s = without (state s .records) (s .args .confirmation .id)
+
+fits : (c : tie.Else2) → StateFits (withRecords (state (start-of (c .before))) (others (start-of (c .before))))
+fits c =
+    let s = start-of (c .before) in
+    without-fits (state s) (s .args .confirmation .id) (state-fits (s .args .image .now) (bytes (c .before)) (is-sound (sound-of (c .before)))) (passed c .held)
+
 removed : (c : tie.After-remove-record) →
-    let a = start-of (left-of c .before) .args in
-    let st = decode (a .image .now) in
-    Uncut st (without (st .records) (a .confirmation .id)) (c .remove-record .last .0)
+    let s = start-of (left-of c .before) in
+    c .remove-record .last .0 ≡ encode (withRecords (state s) (others s))
 removed c =
     let left = left-of c in
-    let a = start-of (left .before) .args in
-    let s = a .image .now in
-    let st = decode s in
-    let id = a .confirmation .id in
+    let s = start-of (left .before) in
+    let image = s .args .image .now in
     let is = is-sound (sound-of (left .before)) in
-    uncut-image s (without (st .records) id) (c .remove-record .last .0) is (oldest-without (st .clock) (st .records) id)
-    (without-fits st id (decode-fits s (bytes (left .before)) (sound-laid-out s is)) (passed left .held)) (c .remove-record .ensures .1)
+    let id = s .args .confirmation .id in
+    c .remove-record .ensures .1
+    ∙ ap (λ (l : List ℕ). recordRemoved l id) (image-of image (bytes (left .before)) is)
+    ∙ removed-stored (state s) (state-fits image (bytes (left .before)) is) id (passed left .held)
+
+answered : (c : tie.After-remove-record) → c .remove-record .result ≡ proofs (start-of (left-of c .before))
+answered c =
+    let left = left-of c in
+    let s = start-of (left .before) in
+    let image = s .args .image .now in
+    let is = is-sound (sound-of (left .before)) in
+    let id = s .args .confirmation .id in
+    c .remove-record .ensures .0
+    ∙ ap (λ (l : List ℕ). proofsOf l id) (image-of image (bytes (left .before)) is)
+    ∙ removed-proofs (state s) (state-fits image (bytes (left .before)) is) id (passed left .held)
 
 done : tie.Need-returns-3
 done c =
@@ -89,8 +113,13 @@ done c =
     let remove = cut .before .before .before .before in
     let left = left-of remove in
     let s = start-of (left .before) in
-    ends-done (s .args .image .now) (refusal s) (proofs s) (next s) (remove .remove-record .result) (cut .cut .last .0)
-    (is-sound (sound-of (left .before))) (none left) (remove .remove-record .ensures .0) (cut .cut .ensures .1 ∙ ap encode (removed remove .whole))
+    let st = state s in
+    let is = is-sound (sound-of (left .before)) in
+    ends-done (s .args .image .now) (refusal s) (proofs s) (next s) (remove .remove-record .result) (cut .cut .last .0) is (none left) (answered remove)
+    (cut .cut .ensures .1
+    ∙ ap logCut (removed remove)
+    ∙ cut-stored st (others s) (sound-parts st (sound-decode (s .args .image .now) is) .span) (oldest-without (st .clock) (st .records) (s .args .confirmation .id))
+    (fits left))
 
 pub close-spec : {M : Type 1} → statement M
 close-spec =
@@ -102,7 +131,7 @@ close-spec =
     (λ c κs. is-sound (c .before))
     (λ c. search needs)
     refused
-    (λ c κs. (is-sound (sound-of (c .before .before)), passed (c .before) .held))
-    (λ c κs. let r = removed (c .before .before .before) in (r .laid, (r .short, r .behind)))
+    (λ c κs. search needs)
+    (λ c κs. search needs)
     (λ c. search needs)
     done)

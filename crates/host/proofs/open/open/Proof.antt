@@ -1,6 +1,7 @@
 -- `host::open::open` meets its contract: 14, a refusal, or the record stored. Assumes nothing.
-use mathlib.Core.Path.{_≡_, sym, _∙_}
+use mathlib.Core.Path.{_≡_, sym, ap, _∙_}
 use mathlib.Core.Bool.{true}
+use mathlib.Core.List.{List}
 use Prim.Native.Nat.{ℕ, _+_, _<_}
 use native.Mathlib.Omega.{arith}
 use borrow.Author.Needs.{needs}
@@ -10,8 +11,11 @@ use Rattle.forms.specs.Bytes.{Bytes}
 use Rattle.forms.specs.Limits.{maxCounters}
 use Rattle.log_image.specs.Sound.{sound}
 use Rattle.log_image.specs.State.{State, decode}
-use Rattle.host.specs.EffectLaws.{record-room}
-use Rattle.host.specs.Host.{openRefusal, opened}
+use Rattle.host.specs.FittingLaws.{image-of, record-room, state-fits}
+use Rattle.log_store.specs.Laws.RecordStores.{added-counted, added-stored}
+use Rattle.log_store.specs.Store.{countersWith, recordAdded}
+use Rattle.host.specs.Host.{openRefusal}
+use Rattle.log_store.specs.Effect.{opened}
 use Rattle.host.specs.RefusalLaws.{open-passed}
 use Rattle.host.specs.SettledLaws.{ends-unsound, ends-refused, ends-done}
 use Rattle.host.proofs.open.open.Statement.{statement}
@@ -65,8 +69,15 @@ done c =
     let added = c .before .before in
     let left = added .before .before in
     let s = start-of (left .before) in
+    let image = s .args .image .now in
+    let is = is-sound (sound-of (left .before)) in
+    let fits = state-fits image (bytes (left .before)) is in
     ends-done (s .args .image .now) (refusal s) (length (state s .records) + 1) (opened (state s) (s .args .confirmation))
-    (added .add-record .result) (added .add-record .last .0) (is-sound (sound-of (left .before))) (passed left) (added .add-record .ensures .0) (added .add-record .ensures .1)
+    (added .add-record .result) (added .add-record .last .0) is (passed left)
+    (added .add-record .ensures .0 ∙ ap countersWith (image-of image (bytes (left .before)) is) ∙ added-counted (state s) fits (room left))
+    (added .add-record .ensures .1
+    ∙ ap (λ (l : List ℕ). recordAdded l (s .args .confirmation)) (image-of image (bytes (left .before)) is)
+    ∙ added-stored (state s) fits (room left) (s .args .confirmation))
 
 pub open-spec : {M : Type 1} → statement M
 open-spec =
@@ -78,6 +89,6 @@ open-spec =
     (λ c κs. is-sound (c .before))
     (λ c. search needs)
     refused
-    (λ c κs. (is-sound (sound-of (c .before .before)), room (c .before)))
+    (λ c κs. search needs)
     (λ c. search needs)
     done)

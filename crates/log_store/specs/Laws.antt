@@ -1,0 +1,11 @@
+pub mod CutStores
+pub mod EachRecordLaws
+pub mod FoundLaws
+pub mod FreshStores
+pub mod Joined
+pub mod RaiseStores
+pub mod RaisedLaws
+pub mod RecordOfLaws
+pub mod RecordStores
+pub mod RemoveStores
+pub mod StoreLaws

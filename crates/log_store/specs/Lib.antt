@@ -1,0 +1,3 @@
+pub mod Effect
+pub mod Laws
+pub mod Store
