@@ -39,9 +39,9 @@ use Rattle.host.specs.SettledLaws.{settled-done, settled-refused}
 use Rattle.host.specs.SoundParts.{sound-parts}
 use Rattle.console.specs.Step.{emptyOutput, yes, yesFor}
 use Rattle.console.specs.StepLaws.{first-yes, output-long}
-use Rattle.bench.specs.Act.{Acted, Renewed, acted, confirmedBy as confirmedOn, following, judgedFor, renewed, tried}
-use Rattle.bench.specs.Tablet.{adopting, forProof, forRaise, nonceFor, refusedFull, refusedStale, succeeded}
-use Rattle.bench.specs.declared.tablet.Tablet.{Tablet}
+use Rattle.tablets.specs.Act.{Acted, Renewed, acted, confirmedBy as confirmedOn, following, judgedFor, renewed, tried}
+use Rattle.tablets.specs.Tablet.{adopting, forProof, forRaise, nonceFor, refusedFull, refusedStale, succeeded}
+use Rattle.tablets.specs.declared.tablet.Tablet.{Tablet}
 use Rattle.assurance.specs.BenchRaise.{Judged, judged, nonce-bytes, nonce-long, raise-settled, raise-steady}
 use Rattle.assurance.specs.HostProof.{prove-fair}
 use Rattle.assurance.specs.HostProofs.{prove-accepted}

@@ -8,10 +8,10 @@ use Rattle.forms.specs.Entry.{units}
 use Rattle.forms.specs.Limits.{imageLen, largest, maxUnits}
 use Rattle.forms.specs.declared.terms.GlobalClock.{GlobalClock}
 use Rattle.log_image.specs.State.{decode}
+use Rattle.tablets.specs.Rounds.{Depot, Turn, afterRounds, afterTurns, answerAt, nobody, turned, turnsOf}
+use Rattle.tablets.specs.Tablet.{maxTablets}
+use Rattle.tablets.specs.declared.tablet.Tablet.{Tablet}
 use Rattle.bench.specs.Bench.{placed, started}
-use Rattle.bench.specs.Rounds.{Depot, Turn, afterRounds, afterTurns, answerAt, nobody, turned, turnsOf}
-use Rattle.bench.specs.Tablet.{maxTablets}
-use Rattle.bench.specs.declared.tablet.Tablet.{Tablet}
 
 -- ---- the depot of a run
 

@@ -28,11 +28,11 @@ use Rattle.log_image.specs.Sound.{recordOf}
 use Rattle.log_store.specs.Laws.RecordOfLaws.{record-before, record-behind}
 use Rattle.host.specs.SettledLaws.{settled-done, settled-refused}
 use Rattle.console.specs.Step.{yes}
-use Rattle.bench.specs.Act.{Acted, acted}
+use Rattle.tablets.specs.Act.{Acted, acted}
+use Rattle.tablets.specs.Rounds.{Depot, Turn, afterTurns, answerAt, nobody, tabletOf, turned, turnsOf}
+use Rattle.tablets.specs.Tablet.{maxTablets}
+use Rattle.tablets.specs.declared.tablet.Tablet.{Tablet}
 use Rattle.bench.specs.Bench.{placed, started}
-use Rattle.bench.specs.Rounds.{Depot, Turn, afterTurns, answerAt, nobody, tabletOf, turned, turnsOf}
-use Rattle.bench.specs.Tablet.{maxTablets}
-use Rattle.bench.specs.declared.tablet.Tablet.{Tablet}
 use Rattle.assurance.specs.BenchActs.{Acts, Still, act, answer-judged, done-believes, requestBy, stale-still}
 use Rattle.assurance.specs.BenchList.{ActClaim, BenchClaim, Elsewhere, FleetFits, Open, Proper, RunPasses, setUp}
 use Rattle.assurance.specs.BenchRaise.{Judged, judged-open, judged-stale}

@@ -27,7 +27,7 @@ use Rattle.host.specs.SettledLaws.{answered-done, settled-done, settled-refused
 use Rattle.host.specs.SoundParts.{sound-parts}
 use Rattle.host.specs.declared.answer.Figures.{Figures}
 use Rattle.console.specs.Step.{raisedOnce, yes}
-use Rattle.bench.specs.Tablet.{nonceFor}
+use Rattle.tablets.specs.Tablet.{nonceFor}
 use Rattle.assurance.specs.HostSteps.{Kept, Steady, batch-steady}
 use Rattle.assurance.specs.ProgramLines.{request-with-bytes}
 

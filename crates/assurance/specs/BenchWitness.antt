@@ -12,9 +12,9 @@ use Rattle.forms.specs.Terms.{counterId, globalClock}
 use Rattle.forms.specs.declared.terms.GlobalClock.{GlobalClock}
 use Rattle.log_image.specs.State.{decode}
 use Rattle.host.specs.Host.{currentOf}
-use Rattle.bench.specs.Rounds.{Depot, Turn, afterRounds, afterTurns, answerAt, nobody, tabletOf, turned, turnsFrom, turnsOf}
-use Rattle.bench.specs.Tablet.{blank}
-use Rattle.bench.specs.declared.tablet.Tablet.{Tablet}
+use Rattle.tablets.specs.Rounds.{Depot, Turn, afterRounds, afterTurns, answerAt, nobody, tabletOf, turned, turnsFrom, turnsOf}
+use Rattle.tablets.specs.Tablet.{blank}
+use Rattle.tablets.specs.declared.tablet.Tablet.{Tablet}
 use Rattle.assurance.specs.BenchActs.{Still, current-kept}
 use Rattle.assurance.specs.BenchList.{Elsewhere, FleetFits, Open, Proper, setUp}
 use Rattle.assurance.specs.BenchProof.{Begun, Knows, Stocked, begun-stocked, bench-claim, done-turn, knows-passes, run-passes, set-up-begun, stale-turn, turn-knows, turned-stocked, unaware-stale}

@@ -13,9 +13,10 @@ use Rattle.grammar.specs.Order.{orderOf}
 use Rattle.grammar.specs.declared.order.Order.{Order}
 use Rattle.console.specs.Lines.{Answered, Pending, within, over, lines, transcript}
 use Rattle.console.specs.Step.{yes}
+use Rattle.tablets.specs.Rounds.{Depot, afterRounds, depotOf}
+use Rattle.tablets.specs.Tablet.{blank, maxTablets}
+use Rattle.tablets.specs.declared.tablet.Tablet.{Tablet}
 use Rattle.bench.specs.Result.{resultText}
-use Rattle.bench.specs.Rounds.{Depot, afterRounds, depotOf}
-use Rattle.bench.specs.Tablet.{Tablet, blank, maxTablets}
 pub use Rattle.bench.specs.declared.bench.Bench.{Bench}
 pub use Rattle.bench.specs.declared.bench.Stage.{Stage}
 

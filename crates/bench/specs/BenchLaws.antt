@@ -16,10 +16,12 @@ use Rattle.host.specs.Host.{openCall}
 use Rattle.text.specs.LineLaws.{nothing-put}
 use Rattle.console.specs.Lines.{Answered}
 use Rattle.console.specs.Step.{yes}
+use Rattle.tablets.specs.Rounds.{Depot, depotOf, tabletsOf}
+use Rattle.tablets.specs.Tablet.{blank, maxTablets}
+use Rattle.tablets.specs.declared.rounds.Fleet.{Fleet}
+use Rattle.tablets.specs.declared.tablet.Tablet.{Tablet}
 use Rattle.bench.specs.Bench.{Bench, Stage, Standing, noOrder, passedOver, placed, refusedTablet, silent, standingOf, tabletOrdered}
 use Rattle.bench.specs.Result.{resultText}
-use Rattle.bench.specs.Rounds.{Depot, Fleet, depotOf, tabletsOf}
-use Rattle.bench.specs.Tablet.{Tablet, blank, maxTablets}
 use Rattle.bench.specs.declared.bench.Ordered.{Ordered}
 
 -- the bench is as ordered, and the text is stored from a place on

@@ -1,16 +1,6 @@
-pub mod Act
-pub mod ActLaws
 pub mod Bench
 pub mod BenchLaws
-pub mod FigureLaws
-pub mod Idle
-pub mod IdleLaws
-pub mod NonceLaws
 pub mod OrderLaws
 pub mod Result
 pub mod ResultLaws
-pub mod Rounds
-pub mod RoundsLaws
-pub mod RoundsLength
 pub mod SessionLaws
-pub mod Tablet

@@ -11,12 +11,13 @@ use Rattle.forms.specs.declared.terms.CounterId.{CounterId}
 use Rattle.forms.specs.declared.terms.GlobalClock.{GlobalClock}
 use Rattle.grammar.specs.declared.order.Order.{Order}
 use Rattle.console.specs.Lines.{Answered}
+use Rattle.tablets.specs.Rounds.{afterRounds}
+use Rattle.tablets.specs.RoundsLength.{length-after-rounds}
+use Rattle.tablets.specs.Tablet.{blank, maxTablets}
+use Rattle.tablets.specs.declared.tablet.Tablet.{Tablet}
 use Rattle.bench.specs.Bench.{Stage, Standing, ordered, passedOver, placed, refusedTablet, runOrdered, silent, startOrdered, tabletOrdered}
 use Rattle.bench.specs.Result.{maxResult}
 use Rattle.bench.specs.ResultLaws.{result-fits}
-use Rattle.bench.specs.Rounds.{afterRounds}
-use Rattle.bench.specs.RoundsLength.{length-after-rounds}
-use Rattle.bench.specs.Tablet.{Tablet, blank, maxTablets}
 
 -- a tablet that is not refused has room behind the others
 pub room-for : (ts : List Tablet) (id : CounterId) (period : ℕ) → refusedTablet ts id period ≡ false → length ts < maxTablets

@@ -2,7 +2,8 @@
 use Prim.Native.Nat.{ℕ, _*_}
 use mathlib.Core.List.{List, [], _∷_, _++_}
 use Rattle.text.specs.Line.{numeral, spaced}
-use Rattle.bench.specs.Tablet.{Tablet, maxTablets}
+use Rattle.tablets.specs.Tablet.{maxTablets}
+use Rattle.tablets.specs.declared.tablet.Tablet.{Tablet}
 
 -- three figures, one space apart, and a newline
 unfoldable pub tabletLine : Tablet → List ℕ

@@ -11,8 +11,9 @@ use Rattle.forms.specs.Bytes.{overwrite}
 use Rattle.forms.specs.BytesLaws.{length-overwrite, stored-next}
 use Rattle.text.specs.Line.{numeral, spaced}
 use Rattle.text.specs.LineLaws.{length-numeral, nothing-put}
+use Rattle.tablets.specs.Tablet.{maxTablets}
+use Rattle.tablets.specs.declared.tablet.Tablet.{Tablet}
 use Rattle.bench.specs.Result.{maxResult, maxTabletLine, resultText, tabletLine}
-use Rattle.bench.specs.Tablet.{Tablet, maxTablets}
 
 -- ---- a tablet's line
 

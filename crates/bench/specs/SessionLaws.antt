@@ -7,10 +7,10 @@ use lib.ListN.{length, length-take}
 use Rattle.grammar.specs.declared.order.Order.{Order}
 use Rattle.console.specs.Lines.{Pending, within}
 use Rattle.console.specs.LinesPrinted.{printedInParts, parts-printed}
+use Rattle.tablets.specs.Tablet.{maxTablets}
 use Rattle.bench.specs.Bench.{Bench, Standing, fresh, lineOrdered, ordered, pendingOrder, printed, standingOf}
 use Rattle.bench.specs.OrderLaws.{order-bounded}
 use Rattle.bench.specs.Result.{maxResult}
-use Rattle.bench.specs.Tablet.{maxTablets}
 
 -- the order of the line was taken
 pub line-ordered : (b : Standing) (line : Pending) {order : Order} → order ≡ pendingOrder line → ordered b order ≡ lineOrdered b line

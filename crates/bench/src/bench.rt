@@ -1,9 +1,5 @@
 // The orders that set a run up, in the order of their lines: the start, the tablets, the run.
 use crate::result::put_result;
-use crate::rounds::Fleet;
-use crate::rounds::run;
-use crate::tablet::MAX_TABLETS;
-use crate::tablet::Tablet;
 use forms::bytes::put;
 use forms::confirmation::Confirmation;
 use forms::terms::CounterId;
@@ -11,16 +7,20 @@ use forms::terms::GlobalClock;
 use grammar::order::Order;
 use host::open::open;
 use host::start::start;
+use tablets::rounds::Fleet;
+use tablets::rounds::run;
+use tablets::tablet::MAX_TABLETS;
+use tablets::tablet::Tablet;
 ghost use mathlib.Core.Path.{_≡_};
 ghost use Prim.Native.Nat.{_+_, _≤_, _<_};
 ghost use lib.ListN.{length};
 ghost use mathlib.Core.List.{[]};
 ghost use Rattle.forms.specs.Bytes.{overwrite};
+ghost use Rattle.tablets.specs.Rounds.{depotOf, tabletsOf};
+ghost use Rattle.tablets.specs.Tablet.{maxTablets};
 ghost use Rattle.bench.specs.Bench.{Stage, noOrder, ordered, placed, refusedTablet, runOrdered, standingOf, startOrdered, tabletOrdered};
 ghost use Rattle.bench.specs.BenchLaws.{Told};
 ghost use Rattle.bench.specs.Result.{maxResult};
-ghost use Rattle.bench.specs.Rounds.{depotOf, tabletsOf};
-ghost use Rattle.bench.specs.Tablet.{maxTablets};
 
 // How far the order of lines is.
 pub enum Stage {

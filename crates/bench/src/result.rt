@@ -1,16 +1,16 @@
 // The text of a run's result: a line for each tablet.
-use crate::rounds::Fleet;
-use crate::tablet::MAX_TABLETS;
-use crate::tablet::Tablet;
 use forms::bytes::put;
+use tablets::rounds::Fleet;
+use tablets::tablet::MAX_TABLETS;
+use tablets::tablet::Tablet;
 use text::line::put_figure;
 use text::line::put_numeral;
 ghost use mathlib.Core.Path.{_≡_};
 ghost use Prim.Native.Nat.{_+_, _≤_};
 ghost use lib.ListN.{length};
 ghost use Rattle.forms.specs.Bytes.{overwrite};
+ghost use Rattle.tablets.specs.Rounds.{tabletsOf};
 ghost use Rattle.bench.specs.Result.{maxResult, maxTabletLine, resultText, tabletLine};
-ghost use Rattle.bench.specs.Rounds.{tabletsOf};
 
 // The most bytes of a result: for each tablet three numbers of ten digits, two spaces and a newline.
 pub const MAX_RESULT: usize = 33 * MAX_TABLETS;

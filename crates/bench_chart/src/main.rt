@@ -4,8 +4,6 @@
 use bench::bench::Bench;
 use bench::bench::Stage;
 use bench::result::MAX_RESULT;
-use bench::rounds::Fleet;
-use bench::rounds::run;
 use bench::session::feed;
 use console::session::Line;
 use console::session::MAX_LINE;
@@ -15,6 +13,8 @@ use grammar::order::read_order;
 use libc::STDIN_FILENO;
 use libc::STDOUT_FILENO;
 use log_image::header::entry_count;
+use tablets::rounds::Fleet;
+use tablets::rounds::run;
 use text::line::put_figure;
 use text::line::put_numeral;
 use text::line::put_words;

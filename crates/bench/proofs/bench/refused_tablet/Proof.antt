@@ -4,7 +4,7 @@ use Prim.Native.Nat.{ℕ}
 use borrow.Author.Needs.{needs}
 use borrow.Author.Tests.{eq-eqb, ne-eqb}
 use lib.Dec.{leb}
-use Rattle.bench.specs.Tablet.{maxTablets}
+use Rattle.tablets.specs.Tablet.{maxTablets}
 use Rattle.bench.proofs.bench.refused_tablet.Statement.{statement}
 use Rattle.bench.proofs.bench.refused_tablet.Tie as tie
 

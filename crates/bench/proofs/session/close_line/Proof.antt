@@ -5,9 +5,9 @@ use borrow.Author.Needs.{needs}
 use lib.ListN.{length, length-map}
 use Rattle.console.specs.Lines.{pendingOf}
 use Rattle.console.specs.LinesLaws.{took-closed}
+use Rattle.tablets.specs.Tablet.{maxTablets}
 use Rattle.bench.specs.Bench.{lineOrdered, standingOf}
 use Rattle.bench.specs.SessionLaws.{line-ordered, order-short}
-use Rattle.bench.specs.Tablet.{maxTablets}
 use Rattle.bench.proofs.session.close_line.Statement.{statement}
 use Rattle.bench.proofs.session.close_line.Tie as tie
 
