@@ -1,12 +1,11 @@
-// The program's input and output: standard input is read in parts, and what the lines of each part print is written before the next is read. No
-// contract can say what is read and written; what is printed for a part is `feed`'s.
+// The program's input and output: the input, a descriptor, is read in parts, and what the lines of each part print is written before the next is
+// read. No contract can say what is read and written; what is printed for a part is `feed`'s.
 use crate::bench::Bench;
 use crate::result::MAX_RESULT;
 use crate::session::feed;
 use crate::session::finish;
 use console::session::Line;
 use forms::image::Image;
-use libc::STDIN_FILENO;
 use libc::STDOUT_FILENO;
 use text::part::front;
 
@@ -25,9 +24,9 @@ struct Turn {
 }
 
 // Reads a part of the input and writes what its lines print.
-fn take_turn(line: Line, bench: Bench, image: &mut [u8]) -> Turn {
+fn take_turn(input: i32, line: Line, bench: Bench, image: &mut [u8]) -> Turn {
     let mut part = [0u8; PART];
-    let got = libc::read(STDIN_FILENO, &mut part);
+    let got = libc::read(input, &mut part);
     if got <= 0 {
         return Turn {
             line,
@@ -64,7 +63,7 @@ fn end(line: Line, bench: Bench, image: &mut [u8]) {
 
 // Takes turns until the input ends or a read or a write fails. The turns are counted down from the largest number of 64 bits, which no input
 // reaches.
-fn take_turns(image: &mut [u8]) -> Turn {
+fn take_turns(input: i32, image: &mut [u8]) -> Turn {
     let mut last = Turn {
         line: Line::new(),
         bench: Bench::new(),
@@ -76,15 +75,15 @@ fn take_turns(image: &mut [u8]) -> Turn {
         turns -= 1;
         let line = last.line;
         let bench = last.bench;
-        last = take_turn(line, bench, image);
+        last = take_turn(input, line, bench, image);
     }
     last
 }
 
-// Reads standard input to its end, from an image that is all zero. A read or a write that fails ends it, with no further line taken.
-pub fn run() {
+// Reads the input to its end, from an image that is all zero. A read or a write that fails ends it, with no further line taken.
+pub fn run(input: i32) {
     let mut image = [0u8; Image::LEN];
-    let last = take_turns(&mut image);
+    let last = take_turns(input, &mut image);
     if last.whole {
         let line = last.line;
         let bench = last.bench;

@@ -1,11 +1,10 @@
-// The program's input and output: standard input is read in parts, and the answers of each part are written before the next is read. No
-// contract can say what is read and written; what is printed for a part is `feed`'s.
+// The program's input and output: the input, a descriptor, is read in parts, and the answers of each part are written before the next is read.
+// No contract can say what is read and written; what is printed for a part is `feed`'s.
 use crate::session::Line;
 use crate::session::MAX_ANSWER;
 use crate::session::feed;
 use crate::session::finish;
 use forms::image::Image;
-use libc::STDIN_FILENO;
 use libc::STDOUT_FILENO;
 use text::part::front;
 
@@ -23,9 +22,9 @@ struct Turn {
 }
 
 // Reads a part of the input and writes what its lines answer.
-fn take_turn(line: Line, image: &mut [u8]) -> Turn {
+fn take_turn(input: i32, line: Line, image: &mut [u8]) -> Turn {
     let mut part = [0u8; PART];
-    let got = libc::read(STDIN_FILENO, &mut part);
+    let got = libc::read(input, &mut part);
     if got <= 0 {
         return Turn {
             line,
@@ -53,7 +52,7 @@ fn end(line: Line, image: &mut [u8]) {
 
 // Takes turns until the input ends or a read or a write fails. The turns are counted down from the largest number of 64 bits, which no input
 // reaches.
-fn take_turns(image: &mut [u8]) -> Turn {
+fn take_turns(input: i32, image: &mut [u8]) -> Turn {
     let mut last = Turn {
         line: Line::new(),
         more: true,
@@ -63,15 +62,15 @@ fn take_turns(image: &mut [u8]) -> Turn {
     while 0 < turns && last.more {
         turns -= 1;
         let line = last.line;
-        last = take_turn(line, image);
+        last = take_turn(input, line, image);
     }
     last
 }
 
-// Reads standard input to its end, from an image that is all zero. A read or a write that fails ends it, with no further line answered.
-pub fn run() {
+// Reads the input to its end, from an image that is all zero. A read or a write that fails ends it, with no further line answered.
+pub fn run(input: i32) {
     let mut image = [0u8; Image::LEN];
-    let last = take_turns(&mut image);
+    let last = take_turns(input, &mut image);
     if last.whole {
         let line = last.line;
         end(line, &mut image);

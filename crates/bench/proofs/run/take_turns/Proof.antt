@@ -6,10 +6,10 @@ use Rattle.bench.proofs.run.take_turns.Statement.{statement}
 use Rattle.bench.proofs.run.take_turns.Tie as tie
 
 abbrev Inv-loop : tie.InvT-loop
-Inv-loop image₀ last₀ turns₀ image last turns = length image ≡ length image₀
+Inv-loop input image₀ last₀ turns₀ image last turns = length image ≡ length image₀
 
 abbrev μ-loop : tie.MeasureT-loop
-μ-loop image₀ last₀ turns₀ image last turns = turns
+μ-loop input image₀ last₀ turns₀ image last turns = turns
 
 pub take-turns-spec : {M : Type 1} → statement M
 take-turns-spec =
@@ -23,7 +23,7 @@ take-turns-spec =
     (λ c. search needs)
     (λ c κs. search needs)
     (λ c. search needs)
-    (λ c. c .before .before .take-turn .kept .1 .1 .0 ∙ c .before .before .before .before .before .before .before .before .loop .inv)
+    (λ c. c .before .before .take-turn .kept .1 .1 .1 .0 ∙ c .before .before .before .before .before .before .before .before .loop .inv)
     (λ c. c .before .before .loop .inv)
     (λ c. tt)
     (λ c. c .before .loop .inv)

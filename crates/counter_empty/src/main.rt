@@ -1,4 +1,0 @@
-// The program on an input of its own: no input: no output.
-fn main() {
-    console::run::run();
-}
