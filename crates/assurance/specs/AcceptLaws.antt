@@ -32,9 +32,9 @@ use Rattle.validity.specs.declared.proof.Parsed.{Parsed}
 use Rattle.validity.specs.declared.proof.Proof.{Proof}
 use Rattle.log_image.specs.ImageParts.{entries-units}
 use Rattle.log_image.specs.Sound.{consecutive, allProper}
-use Rattle.desk.specs.declared.answer.Answer.{Answer}
-use Rattle.desk.specs.Desk.{confirmation, certificate, entry, verdictsBefore, verdictsFor, allYes, isOwn, badWanted, closesElsewhere, wrongClosing, closing, verified}
-use Rattle.desk.specs.VerdictsLaws.{verdicts-counted}
+use Rattle.desk_table.specs.declared.answer.Answer.{Answer}
+use Rattle.desk_table.specs.Desk.{confirmation, certificate, entry, verdictsBefore, verdictsFor, allYes, isOwn, badWanted, closesElsewhere, wrongClosing, closing, verified}
+use Rattle.desk.specs.LogVerdictsLaws.{verdicts-counted}
 use Rattle.assurance.specs.AcceptRows.{ones, entry-behind, ones-own, yesTo, Clean, clean-verified}
 
 -- what a proof set out for a counter says: the counter's confirmation (v, g), and the entries after g, one for each reading, that chain

@@ -27,12 +27,12 @@ use Rattle.validity.specs.declared.proof.Kind.{Kind}
 use Rattle.validity.specs.declared.proof.Parsed.{Parsed}
 use Rattle.validity.specs.declared.proof.Proof.{Proof}
 use Rattle.log_image.specs.Sound.{consecutive, proper, allProper}
-use Rattle.desk.specs.declared.answer.Answer.{Answer}
-use Rattle.desk.specs.Desk.{confirmation, entry, verdictsBefore, verdictsTo, verdictCount, zeroOrOne, isOwn, runningTo, badWanted, badVerdicts, badConfirmation, certificateDenied, moduleDenied, forged, repeated, closesElsewhere, wrongReading, wrongClosing, breaksChain, closing, laterChecks, accepted, judged, verified}
-use Rattle.desk.specs.DeskLaws.{answerOf, verified-parsed}
-use Rattle.desk.specs.Lowest.{lowest}
-use Rattle.desk.specs.LowestLaws.{Clear, lowest-none}
-use Rattle.desk.specs.VerdictsLaws.{verdicts-grow}
+use Rattle.desk_table.specs.declared.answer.Answer.{Answer}
+use Rattle.desk_table.specs.Desk.{confirmation, entry, verdictsBefore, verdictsTo, verdictCount, zeroOrOne, isOwn, runningTo, badWanted, badVerdicts, badConfirmation, certificateDenied, moduleDenied, forged, repeated, closesElsewhere, wrongReading, wrongClosing, breaksChain, closing, laterChecks, accepted, judged, verified}
+use Rattle.desk_table.specs.DeskLaws.{answerOf, verified-parsed}
+use Rattle.desk_table.specs.Lowest.{lowest}
+use Rattle.desk_table.specs.LowestLaws.{Clear, lowest-none}
+use Rattle.desk.specs.LogVerdictsLaws.{verdicts-grow}
 
 -- a verdict list that is all yes
 abbrev pub ones : ℕ → List ℕ

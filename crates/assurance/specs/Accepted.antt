@@ -15,11 +15,11 @@ use Rattle.validity.specs.ProofLaws.{Reads, parsed-reads, reads-parsed}
 use Rattle.validity.specs.declared.proof.Kind.{Kind}
 use Rattle.validity.specs.declared.proof.Parsed.{Parsed}
 use Rattle.validity.specs.declared.proof.Proof.{Proof}
-use Rattle.desk.specs.Answer.{figures}
-use Rattle.desk.specs.declared.answer.Answer.{Answer}
-use Rattle.desk.specs.Desk.{confirmation, certificate, verdictsBefore, verdictCount, isOwn, runningTo, badWanted, moduleDenied, forged, repeated, wrongReading, breaksChain, laterChecks, accepted, judged, verified}
-use Rattle.desk.specs.DeskLaws.{answerOf, verified-parsed}
-use Rattle.desk.specs.LowestLaws.{lowest-clear}
+use Rattle.desk_table.specs.Answer.{figures}
+use Rattle.desk_table.specs.declared.answer.Answer.{Answer}
+use Rattle.desk_table.specs.Desk.{confirmation, certificate, verdictsBefore, verdictCount, isOwn, runningTo, badWanted, moduleDenied, forged, repeated, wrongReading, breaksChain, laterChecks, accepted, judged, verified}
+use Rattle.desk_table.specs.DeskLaws.{answerOf, verified-parsed}
+use Rattle.desk_table.specs.LowestLaws.{lowest-clear}
 use Rattle.assurance.specs.DeskList.{Call, shown, Accepted, closes, kindOf, entryOf, moduleSaid, ownerSaid}
 use Rattle.assurance.specs.Rows.{test, refusal-passed, rows-passed, answer-behind, none-lowest, wanted-some, verdicts-right, confirmation-right, said-yes, certificate-said, module-said, digest-right, named-once, certificate-closes, last-closes, last-stands, readings-right, closing-right, closing-read, chain-right}
 

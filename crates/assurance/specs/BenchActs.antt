@@ -26,8 +26,8 @@ use Rattle.log_image.specs.ImageRoundTrip.{decode-encode}
 use Rattle.log_image.specs.LookupLaws.{zero-unheld}
 use Rattle.log_image.specs.Sound.{after, base, holds, oldest}
 use Rattle.log_image.specs.State.{Record, State, decode, encode}
-use Rattle.desk.specs.Desk.{allYes, verified}
-use Rattle.desk.specs.declared.answer.Answer.{Answer}
+use Rattle.desk_table.specs.Desk.{allYes, verified}
+use Rattle.desk_table.specs.declared.answer.Answer.{Answer}
 use Rattle.log_store.specs.Laws.EachRecordLaws.{Keeps, confirmation-keeps, held-keeps, holds-updated, raise-keeps}
 use Rattle.host.specs.HeldLaws.{current-stored}
 use Rattle.host.specs.Host.{Settled, confirmCall, confirmedState, counted, currentOf, entriesOf, heldOf, proofOf, proveCall, proveRefusal, replaced, requestRefusal, runningOf, settled}

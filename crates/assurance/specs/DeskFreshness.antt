@@ -15,7 +15,7 @@ use Rattle.history.specs.HistoryLaws.{made-stands, stands-within}
 use Rattle.history.specs.Nonce.{Has, New}
 use Rattle.history.specs.NonceLaws.{named-has, new-before, new-stands-later, stands-not-new}
 use Rattle.history.specs.Value.{Signatures}
-use Rattle.desk.specs.Desk.{certificate}
+use Rattle.desk_table.specs.Desk.{certificate}
 use Rattle.assurance.specs.Accepted.{Passed, countOf, accepted-passed}
 use Rattle.assurance.specs.DeskList.{Call, Item, history, Accepted, closes, kindOf, entryOf, Truth, Fresh, Clash}
 use Rattle.assurance.specs.EntryCounts.{Carried, entry-reached, entry-carried}

@@ -22,9 +22,9 @@ use Rattle.history.specs.History.{HistoryEvent, list, givenNonce, clockAfter, M
 use Rattle.history.specs.Nonce.{New}
 use Rattle.history.specs.Openings.{openingsBetween}
 use Rattle.history.specs.Value.{Signatures, valueAt}
-use Rattle.desk.specs.Answer.{figures}
-use Rattle.desk.specs.declared.answer.Figures.{Figures}
-use Rattle.desk.specs.Desk.{verified, confirmation, certificate, entry, verdictsBefore, moduleVerdict, ownerVerdict}
+use Rattle.desk_table.specs.Answer.{figures}
+use Rattle.desk_table.specs.declared.answer.Figures.{Figures}
+use Rattle.desk_table.specs.Desk.{verified, confirmation, certificate, entry, verdictsBefore, moduleVerdict, ownerVerdict}
 
 -- ---- the list
 

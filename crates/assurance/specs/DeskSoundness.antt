@@ -19,7 +19,7 @@ use Rattle.history.specs.OpeningsLaws.{running-walk}
 use Rattle.history.specs.Value.{Signatures, counts, valueAt}
 use Rattle.history.specs.ValueLaws.{valueAt-walks-on}
 use Rattle.history.specs.Walk.{pass, walk}
-use Rattle.desk.specs.Desk.{confirmation, verdictsBefore}
+use Rattle.desk_table.specs.Desk.{confirmation, verdictsBefore}
 use Rattle.assurance.specs.Accepted.{Passed, countOf, runningOf, accepted-passed}
 use Rattle.assurance.specs.DeskList.{Call, Item, confirmed, call, At, history, shown, Accepted, closes, kindOf, Truth, Unopened, Opening, MadeFrom, Supposed, Sound, Clashed, Lent}
 use Rattle.assurance.specs.EntryCounts.{Linked, entries-linked, entry-counts}

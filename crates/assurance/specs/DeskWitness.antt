@@ -38,13 +38,13 @@ use Rattle.history.specs.History.{increment, read, list, carried, increments, c
 use Rattle.history.specs.Nonce.{InRequest, New}
 use Rattle.history.specs.Openings.{numberOf, openingsBetween}
 use Rattle.history.specs.Value.{signedAmong, counts, valueAt}
-use Rattle.desk.specs.Answer.{figures}
-use Rattle.desk.specs.declared.answer.Answer.{Answer}
-use Rattle.desk.specs.declared.answer.Figures.{Figures}
-use Rattle.desk.specs.Desk.{confirmation, zeroOrOne, isNo, verdictsTo, isOwn, runningTo, badWanted, badVerdicts, badConfirmation, certificateDenied, moduleDenied, forged, repeated, closesElsewhere, wrongReading, wrongClosing, breaksChain, closing, laterChecks, accepted, judged, verified}
-use Rattle.desk.specs.DeskLaws.{answerOf, verified-parsed}
-use Rattle.desk.specs.Lowest.{lowest, lowestFrom}
-use Rattle.desk.specs.LowestLaws.{lowest-none}
+use Rattle.desk_table.specs.Answer.{figures}
+use Rattle.desk_table.specs.declared.answer.Answer.{Answer}
+use Rattle.desk_table.specs.declared.answer.Figures.{Figures}
+use Rattle.desk_table.specs.Desk.{confirmation, zeroOrOne, isNo, verdictsTo, isOwn, runningTo, badWanted, badVerdicts, badConfirmation, certificateDenied, moduleDenied, forged, repeated, closesElsewhere, wrongReading, wrongClosing, breaksChain, closing, laterChecks, accepted, judged, verified}
+use Rattle.desk_table.specs.DeskLaws.{answerOf, verified-parsed}
+use Rattle.desk_table.specs.Lowest.{lowest, lowestFrom}
+use Rattle.desk_table.specs.LowestLaws.{lowest-none}
 use Rattle.assurance.specs.DeskExample.{nonce, seven, nine, start, signed, opening, later, request, to-101, to-102, to-104, to-105, entryFor, read-at, three, two, one, five, by-read, left-out, by-increment, since-opening, unraised, fits-101, fits-102, fits-104, fits-105, items}
 use Rattle.assurance.specs.DeskList.{Call, Item, event, confirmed, call, At, history, shown, Accepted, closes, kindOf, entryOf, requestOf, ownerSaid, Shows, Truth, Unopened, Opening, MadeFrom, Supposed, Sound, Fresh, Clash, Clashed, Lent}
 use Rattle.assurance.specs.DeskProof.{desk-claim}

@@ -23,7 +23,7 @@ use Rattle.history.specs.History.{Given, HistoryEvent, list, bare, clockAfter, 
 use Rattle.history.specs.HistoryLaws.{made-within}
 use Rattle.history.specs.Value.{Signatures, counts}
 use Rattle.history.specs.ValueLaws.{signed-once, made-counts, counts-stays}
-use Rattle.desk.specs.Desk.{isNo, ownBy, isOwn}
+use Rattle.desk_table.specs.Desk.{isNo, ownBy, isOwn}
 use Rattle.assurance.specs.Accepted.{Passed, countOf, ownOf}
 use Rattle.assurance.specs.DeskList.{Call, Item, history, entryOf, requestOf, ownerSaid, Shows, Truth, Clash}
 use Rattle.assurance.specs.ListLaws.{history-grows}

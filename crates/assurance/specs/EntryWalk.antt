@@ -12,7 +12,7 @@ use Rattle.forms.specs.declared.terms.CounterId.{CounterId}
 use Rattle.forms.specs.declared.terms.GlobalClock.{GlobalClock}
 use Rattle.history.specs.Walk.{passRunning, walk}
 use Rattle.history.specs.WalkLaws.{walk-last}
-use Rattle.desk.specs.Desk.{entry, isOwn, runningTo}
+use Rattle.desk_table.specs.Desk.{entry, isOwn, runningTo}
 
 module _ (counting : GlobalClock → Bool) (s : List ℕ) (log : ℕ) (verdicts : List ℕ) (before : ℕ) (id : CounterId) (value start : ℕ) where
   -- entry k has the reading k after the start, which counts exactly if the entry is the counter's own

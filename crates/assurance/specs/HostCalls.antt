@@ -15,8 +15,8 @@ use Rattle.validity.specs.Proof.{encode, fieldsLen}
 use Rattle.log_image.specs.ImageRoundTrip.{StateFits, decode-fits}
 use Rattle.log_image.specs.State.{State, decode}
 use Rattle.log_image.specs.Sound.{holds, laidOut, soundState, sound}
-use Rattle.desk.specs.declared.answer.Answer.{Answer}
-use Rattle.desk.specs.Desk.{allYes, verified}
+use Rattle.desk_table.specs.declared.answer.Answer.{Answer}
+use Rattle.desk_table.specs.Desk.{allYes, verified}
 use Rattle.host.specs.Host.{requestNonce, runningOf, answered, proofOf, lastOf, proveRefusal, lastRefusal, readRefusal, counted, readCall, proveCall, lastCall}
 use Rattle.host.specs.DoneLaws.{settled-passed}
 use Rattle.host.specs.RefusalLaws.{prove-passed, last-passed}

@@ -29,8 +29,8 @@ use Rattle.log_image.specs.ImageRoundTrip.{StateFits}
 use Rattle.log_image.specs.State.{State}
 use Rattle.log_image.specs.Sound.{holds, consecutive, base, proper, allProper, after, ending, soundState}
 use Rattle.log_image.specs.LookupLaws.{zero-unheld}
-use Rattle.desk.specs.declared.answer.Answer.{Answer}
-use Rattle.desk.specs.Desk.{allYes, verified}
+use Rattle.desk_table.specs.declared.answer.Answer.{Answer}
+use Rattle.desk_table.specs.Desk.{allYes, verified}
 use Rattle.host.specs.HeldLaws.{Held, held-within, held-chains, entries-consecutive}
 use Rattle.host.specs.Host.{heldOf, entriesOf, runningOf, hasEntry, requestNonce, proofOf, lastEntries, lastOf}
 use Rattle.host.specs.LogEndsLaws.{proper-drop}

@@ -26,10 +26,10 @@ use Rattle.validity.specs.Proof.{miscounted, logOffset}
 use Rattle.validity.specs.ProofLaws.{count-some}
 use Rattle.validity.specs.declared.proof.Kind.{Kind}
 use Rattle.validity.specs.declared.proof.Proof.{Proof}
-use Rattle.desk.specs.Answer.{figures}
-use Rattle.desk.specs.declared.answer.Answer.{Answer}
-use Rattle.desk.specs.Desk.{confirmation, certificate, entry, verdictsBefore, verdictCount, verdictPlace, zeroOrOne, isNo, moduleVerdict, ownerVerdict, isOwn, closesOn, runningTo, badWanted, badVerdicts, badConfirmation, certificateDenied, moduleDenied, forged, repeated, closesElsewhere, wrongReading, wrongClosing, breaksChain, closing}
-use Rattle.desk.specs.LowestLaws.{Clear}
+use Rattle.desk_table.specs.Answer.{figures}
+use Rattle.desk_table.specs.declared.answer.Answer.{Answer}
+use Rattle.desk_table.specs.Desk.{confirmation, certificate, entry, verdictsBefore, verdictCount, verdictPlace, zeroOrOne, isNo, moduleVerdict, ownerVerdict, isOwn, closesOn, runningTo, badWanted, badVerdicts, badConfirmation, certificateDenied, moduleDenied, forged, repeated, closesElsewhere, wrongReading, wrongClosing, breaksChain, closing}
+use Rattle.desk_table.specs.LowestLaws.{Clear}
 
 -- ---- a table of refusals
 

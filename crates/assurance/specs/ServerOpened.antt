@@ -34,9 +34,9 @@ use Rattle.history.specs.Value.{signedAmong, counts, largest, valueAt}
 use Rattle.log_image.specs.ImageParts.{bytes-append}
 use Rattle.log_image.specs.Sound.{holds, oldest, after, ending, consecutive, allProper}
 use Rattle.log_image.specs.State.{State, decode}
-use Rattle.desk.specs.Answer.{figures}
-use Rattle.desk.specs.Desk.{certificate, allYes}
-use Rattle.desk.specs.declared.answer.Figures.{Figures as DeskFigures}
+use Rattle.desk_table.specs.Answer.{figures}
+use Rattle.desk_table.specs.Desk.{certificate, allYes}
+use Rattle.desk_table.specs.declared.answer.Figures.{Figures as DeskFigures}
 use Rattle.log_store.specs.Laws.EachRecordLaws.{Each}
 use Rattle.log_store.specs.Laws.RaiseStores.{entry-of-fits}
 use Rattle.host.specs.Host.{Asked, asked, askedFrom, batchRefusal, judgeNext, judgedBatch, counted, incrementCall}

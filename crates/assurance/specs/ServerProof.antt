@@ -28,7 +28,7 @@ use Rattle.history.specs.Value.{Signatures, valueAt}
 use Rattle.history.specs.ValueLaws.{valueAt-stays}
 use Rattle.log_image.specs.Sound.{base, after}
 use Rattle.log_image.specs.State.{State, decode}
-use Rattle.desk.specs.Desk.{confirmation, certificate, verdictsBefore, verdictCount, ownBy, isOwn}
+use Rattle.desk_table.specs.Desk.{confirmation, certificate, verdictsBefore, verdictCount, ownBy, isOwn}
 use Rattle.log_store.specs.Laws.EachRecordLaws.{Each, each-drop, each-take, each-held}
 use Rattle.host.specs.Host.{heldOf, entriesOf, lastEntries, startCall}
 use Rattle.assurance.specs.AcceptRows.{ones, ones-own}

@@ -17,7 +17,7 @@ use Rattle.forms.specs.declared.terms.GlobalClock.{GlobalClock}
 use Rattle.validity.specs.Proof.{logOffset, shapeAt}
 use Rattle.validity.specs.declared.proof.Kind.{Kind}
 use Rattle.history.specs.Value.{Signatures}
-use Rattle.desk.specs.Desk.{verdictsBefore, verdictsTo, verdictCount}
+use Rattle.desk_table.specs.Desk.{verdictsBefore, verdictsTo, verdictCount}
 use Rattle.assurance.specs.AcceptRows.{ones, verdicts-within}
 use Rattle.assurance.specs.Accepted.{Passed, countOf, accepted-passed}
 use Rattle.assurance.specs.DeskList.{Call, Item, Accepted, kindOf, entryOf}

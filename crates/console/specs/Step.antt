@@ -11,9 +11,9 @@ use Rattle.forms.specs.declared.terms.CounterId.{CounterId}
 use Rattle.validity.specs.Proof.{Fields}
 use Rattle.validity.specs.declared.proof.Kind.{Kind}
 use Rattle.log_image.specs.State.{decode}
-use Rattle.desk.specs.Answer.{figures}
-use Rattle.desk.specs.Desk.{allYes, verdictsFor, verified}
-use Rattle.desk.specs.declared.answer.Answer.{Answer}
+use Rattle.desk_table.specs.Answer.{figures}
+use Rattle.desk_table.specs.Desk.{allYes, verdictsFor, verified}
+use Rattle.desk_table.specs.declared.answer.Answer.{Answer}
 use Rattle.host.specs.Host.{Settled, startCall, openCall, tickCall, incrementCall, incrementFigures, readCall, proveCall, lastCall, confirmCall}
 use Rattle.host.specs.declared.answer.BatchFigures.{BatchFigures}
 use Rattle.host.specs.declared.answer.Figures.{Figures}

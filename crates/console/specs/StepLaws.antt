@@ -24,8 +24,8 @@ use Rattle.log_image.specs.ImageRoundTrip.{laid-out-parts, sound-laid-out}
 use Rattle.log_image.specs.LogLaws.{entries-first}
 use Rattle.log_image.specs.Sound.{base, laidOut, after}
 use Rattle.log_image.specs.State.{State, decode, entryCount}
-use Rattle.desk.specs.Desk.{allYes, verdictsFor, verified}
-use Rattle.desk.specs.VerdictsLaws.{verdicts-few}
+use Rattle.desk_table.specs.Desk.{allYes, verdictsFor, verified}
+use Rattle.desk_table.specs.VerdictsLaws.{verdicts-few}
 use Rattle.host.specs.DoneLaws.{settled-passed, value-given}
 use Rattle.host.specs.Host.{hasEntry, requestNonce, heldOf, proofOf, lastOf, proveRefusal, lastRefusal, counted, incrementFigures, incrementCall, proveCall, lastCall, proveOutput, lastOutput}
 use Rattle.host.specs.LastLaws.{has-none}

@@ -1,7 +1,7 @@
 // prove and last as lines ask for them: the host writes the proof, and the desk judges it with every verdict yes.
-use desk::answer::Answer;
-use desk::verdicts::verdict_count;
 use desk::verify::verify;
+use desk_table::answer::Answer;
+use desk_table::verdicts::verdict_count;
 use forms::entry::Head;
 use forms::entry::entry_len;
 use forms::image::Image;
@@ -27,7 +27,7 @@ ghost use Rattle.forms.specs.Limits.{imageLogOffset};
 ghost use Rattle.log_image.specs.Sound.{laidOut};
 ghost use Rattle.log_image.specs.State.{entryCount};
 ghost use mathlib.Core.Bool.{true};
-ghost use Rattle.desk.specs.Desk.{verified};
+ghost use Rattle.desk_table.specs.Desk.{verified};
 ghost use Rattle.grammar.specs.declared.command.Command.{Command};
 ghost use Rattle.console.specs.Step.{deskFigures, ran, yesFor};
 ghost use Rattle.console.specs.StepLaws.{FoundIn, FoundNonce};

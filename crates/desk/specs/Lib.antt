@@ -1,11 +1,5 @@
-pub mod Answer
-pub mod Cases
-pub mod Desk
-pub mod DeskLaws
-pub mod Lowest
-pub mod LowestLaws
+pub mod LogVerdictsLaws
 pub mod Progress
 pub mod ProgressLaws
 pub mod Reader
-pub mod VerdictsLaws
 pub mod WalkLaws

@@ -1,10 +1,10 @@
 // Verifying a validity proof: document 01's table, check by check.
-use crate::answer::Answer;
 use crate::closing::closes_elsewhere;
 use crate::closing::closing_reading;
 use crate::closing::wrong_closing;
 use crate::log::walk_log;
-use crate::verdicts;
+use desk_table::answer::Answer;
+use desk_table::verdicts;
 use forms::bytes::byte_at;
 use forms::confirmation::Confirmation;
 use forms::nonce;
@@ -17,7 +17,7 @@ ghost use mathlib.Core.Bool.{false, true};
 ghost use lib.ListN.{length};
 ghost use Rattle.forms.specs.Log.{endsAt, walk};
 ghost use Rattle.validity.specs.Proof.{logOffset, miscounted};
-ghost use Rattle.desk.specs.Desk.{badWanted, badConfirmation, judged, verified};
+ghost use Rattle.desk_table.specs.Desk.{badWanted, badVerdicts, badConfirmation, judged, verified};
 
 // Check 1: whether what is wanted can't be.
 fn bad_wanted(id: CounterId, nonce: &[u8]) -> bool
@@ -27,6 +27,18 @@ fn bad_wanted(id: CounterId, nonce: &[u8]) -> bool
         return true;
     }
     nonce.len() != nonce::LEN
+}
+
+// Check 6: whether the list has another length than the proof asks for, or a byte over 1.
+fn bad_verdicts(proof: Proof, s: &[u8], verdicts: &[u8]) -> bool
+    requires { ⌜ endsAt (walk (now s) (logOffset (proof .kind)) (proof .count)) (length (now s)) ≡ true ⌝ }
+    ensures { λ r. ⌜ r ≡ badVerdicts proof (now (s .entry)) (now (verdicts .entry)) ⌝ }
+{
+    let kind = proof.kind;
+    if verdicts.len() != verdicts::verdict_count(kind, s.len()) {
+        return true;
+    }
+    !verdicts::zero_or_one(verdicts)
 }
 
 // Check 7: whether the confirmation is another counter's, or its value above its reading.
@@ -48,7 +60,7 @@ fn judge(s: &[u8], proof: Proof, verdicts: &[u8], id: CounterId, nonce: &[u8]) -
     let start = confirmation.reading;
     let value = confirmation.value;
     let count = proof.count;
-    if verdicts::bad(proof, s, verdicts) {
+    if bad_verdicts(proof, s, verdicts) {
         return Answer::Refused(6, 0);
     }
     if bad_confirmation(confirmation, id) {

@@ -3,7 +3,7 @@ use crate::case::Case;
 use crate::case::FIGURES;
 use crate::case::NOT_GIVEN;
 use crate::log::put_log;
-use desk::answer::Figures;
+use desk_table::answer::Figures;
 use forms::bytes::put;
 use forms::certificate::Certificate;
 use forms::confirmation::Confirmation;

@@ -1,8 +1,8 @@
 // The desk's answer to a proof that was written, with every verdict yes.
 use crate::call::Call;
-use desk::answer::Figures;
-use desk::verdicts::verdict_count;
 use desk::verify::verify;
+use desk_table::answer::Figures;
+use desk_table::verdicts::verdict_count;
 use forms::entry::Head;
 use forms::log::LogEnd;
 use forms::log::log_end;

@@ -8,8 +8,8 @@ use borrow.Author.Tests.{eq-eqb, ne-eqb}
 use lib.ListN.{length, take}
 use Rattle.forms.specs.declared.terms.CounterId.{CounterId}
 use Rattle.validity.specs.declared.proof.Kind.{Kind}
-use Rattle.desk.specs.Desk.{verified}
-use Rattle.desk.specs.declared.answer.Answer.{Answer}
+use Rattle.desk_table.specs.Desk.{verified}
+use Rattle.desk_table.specs.declared.answer.Answer.{Answer}
 use Rattle.host.specs.Host.{proveCall, proveOutput}
 use Rattle.host.specs.declared.answer.Figures.{Figures}
 use Rattle.console.specs.Step.{emptyOutput, raisedOnce, yesFor}

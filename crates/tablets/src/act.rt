@@ -5,7 +5,7 @@ use crate::tablet::Tablet;
 use crate::tablet::nonce_for;
 use console::judge::judge;
 use console::step::raise_once;
-use desk::answer::Answer;
+use desk_table::answer::Answer;
 use forms::confirmation::Confirmation;
 use forms::nonce::Nonce;
 use forms::terms::CounterId;

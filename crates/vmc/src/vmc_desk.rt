@@ -1,11 +1,11 @@
 // The desk for the program at the dock.
-use desk::answer::Figures;
 use desk::verify::verify;
+use desk_table::answer::Figures;
 use forms::terms::CounterId;
 ghost use mathlib.Core.Path.{_≡_};
 ghost use Rattle.forms.specs.Terms.{counterId};
-ghost use Rattle.desk.specs.Answer.{figures};
-ghost use Rattle.desk.specs.Desk.{verified};
+ghost use Rattle.desk_table.specs.Answer.{figures};
+ghost use Rattle.desk_table.specs.Desk.{verified};
 
 // The five figures of the desk's answer, with no buffer written.
 #[no_mangle]

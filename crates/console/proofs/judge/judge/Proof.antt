@@ -4,7 +4,7 @@ use mathlib.Core.List.{List}
 use Prim.Native.Nat.{ℕ}
 use borrow.Author.Needs.{needs}
 use lib.ListN.{replicate, take}
-use Rattle.desk.specs.Desk.{verified}
+use Rattle.desk_table.specs.Desk.{verified}
 use Rattle.console.specs.Step.{maxVerdicts, yes}
 use Rattle.console.proofs.judge.judge.Statement.{statement}
 use Rattle.console.proofs.judge.judge.Tie as tie

@@ -1,7 +1,7 @@
 -- `console::judge::show` meets its contract. Assumes nothing.
 use mathlib.Core.Path.{ap}
 use borrow.Author.Needs.{needs}
-use Rattle.desk.specs.declared.answer.Figures.{Figures}
+use Rattle.desk_table.specs.declared.answer.Figures.{Figures}
 use Rattle.console.proofs.judge.show.Statement.{statement}
 use Rattle.console.proofs.judge.show.Tie as tie
 

@@ -3,7 +3,7 @@ use mathlib.Core.Path.{sym, ap}
 use mathlib.Core.Bool.{Bool, not, _||_}
 use borrow.Author.Tests.{eq-eqb, ne-eqb}
 use lib.Dec.{ltb}
-use Rattle.desk.specs.Desk.{badConfirmation}
+use Rattle.desk_table.specs.Desk.{badConfirmation}
 use Rattle.desk.proofs.verify.bad_confirmation.Statement.{statement}
 use Rattle.desk.proofs.verify.bad_confirmation.Tie as tie
 

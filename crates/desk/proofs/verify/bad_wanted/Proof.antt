@@ -5,7 +5,7 @@ use borrow.Author.Tests.{eq-eqb, ne-eqb}
 use lib.Dec.{eqb}
 use lib.ListN.{length}
 use Rattle.forms.specs.Limits.{nonceLen}
-use Rattle.desk.specs.Desk.{badWanted}
+use Rattle.desk_table.specs.Desk.{badWanted}
 use Rattle.desk.proofs.verify.bad_wanted.Statement.{statement}
 use Rattle.desk.proofs.verify.bad_wanted.Tie as tie
 

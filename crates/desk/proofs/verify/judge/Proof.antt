@@ -15,10 +15,11 @@ use Rattle.forms.specs.Log.{endsAt, walk}
 use Rattle.forms.specs.declared.confirmation.Confirmation.{Confirmation}
 use Rattle.validity.specs.Proof.{logOffset}
 use Rattle.validity.specs.ProofLaws.{count-bound}
-use Rattle.desk.specs.Answer.{Answer}
-use Rattle.desk.specs.Desk.{isNo, verdictsBefore, verdictCount, badConfirmation, laterChecks, accepted, judged, confirmation}
+use Rattle.desk_table.specs.declared.answer.Answer.{Answer}
+use Rattle.desk_table.specs.Desk.{isNo, verdictsBefore, verdictCount, badConfirmation, laterChecks, accepted, judged, confirmation}
+use Rattle.desk_table.specs.VerdictsLaws.{before-bound}
+use Rattle.desk.specs.LogVerdictsLaws.{counted-verdicts}
 use Rattle.desk.specs.Progress.{Progress, progressAt}
-use Rattle.desk.specs.VerdictsLaws.{before-bound, counted-verdicts}
 use Rattle.desk.proofs.verify.judge.Statement.{statement}
 use Rattle.desk.proofs.verify.judge.Tie as tie
 
@@ -45,7 +46,7 @@ rest-0 c = refl
 
 -- 6
 verdicts : tie.Need-returns
-verdicts c = given _ _ _ (rest-0 (start (c .before .before))) (sym (c .before .bad .ensures) ∙ c .if1 .taken)
+verdicts c = given _ _ _ (rest-0 (start (c .before .before))) (sym (c .before .bad-verdicts .ensures) ∙ c .if1 .taken)
 
 abbrev held-1 : tie.Else1 → tie.After-start
 held-1 c = c .before .before
@@ -54,7 +55,7 @@ abbrev start-1 : tie.Else1 → tie.Start
 start-1 c = start (held-1 c)
 
 rest-1 : (c : tie.Else1) → answer (start-1 c) ≡ rest 1 (start-1 c)
-rest-1 c = passed _ _ _ (rest-0 (start-1 c)) (sym (c .before .bad .ensures) ∙ c .if1 .left)
+rest-1 c = passed _ _ _ (rest-0 (start-1 c)) (sym (c .before .bad-verdicts .ensures) ∙ c .if1 .left)
 
 -- 7
 judged-confirmation : (c : tie.After-bad-confirmation) → badConfirmation (confirmation (start-1 (c .before) .args .s .now)) (start-1 (c .before) .args .id) ≡ c .bad-confirmation .result
@@ -108,7 +109,7 @@ few c = count-bound (c .args .proof) (c .pre .0)
 -- as many verdicts as the proof asks for
 verdicts-there : (c : tie.Else1) → length (start-1 c .args .verdicts .now) ≡ verdictCount (start-1 c .args .s .now) (start-1 c .args .proof)
 verdicts-there c =
-    counted-verdicts (start-1 c .args .proof) (start-1 c .args .s .now) (start-1 c .args .verdicts .now) (sym (c .before .bad .ensures) ∙ c .if1 .left)
+    counted-verdicts (start-1 c .args .proof) (start-1 c .args .s .now) (start-1 c .args .verdicts .now) (sym (c .before .bad-verdicts .ensures) ∙ c .if1 .left)
 
 walk-asks : tie.Need-walk-log-requires
 walk-asks c κs =

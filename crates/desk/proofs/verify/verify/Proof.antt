@@ -6,9 +6,9 @@ use Rattle.validity.specs.Proof.{parsed}
 use Rattle.validity.specs.ProofLaws.{parsed-counted, parsed-ends}
 use Rattle.validity.specs.declared.proof.Parsed.{Parsed}
 use Rattle.validity.specs.declared.proof.Proof.{Proof}
-use Rattle.desk.specs.Answer.{Answer}
-use Rattle.desk.specs.Desk.{judged, verified}
-use Rattle.desk.specs.DeskLaws.{answerOf, verified-parsed}
+use Rattle.desk_table.specs.declared.answer.Answer.{Answer}
+use Rattle.desk_table.specs.Desk.{judged, verified}
+use Rattle.desk_table.specs.DeskLaws.{answerOf, verified-parsed}
 use Rattle.desk.proofs.verify.verify.Statement.{statement}
 use Rattle.desk.proofs.verify.verify.Tie as tie
 

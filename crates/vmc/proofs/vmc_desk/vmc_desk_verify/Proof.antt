@@ -1,7 +1,7 @@
 -- `vmc::vmc_desk::vmc_desk_verify` meets its contract: the five figures of the desk's answer. Assumes nothing.
 use mathlib.Core.Path.{ap, _∙_}
 use borrow.Author.Needs.{needs}
-use Rattle.desk.specs.Answer.{figures}
+use Rattle.desk_table.specs.Answer.{figures}
 use Rattle.vmc.proofs.vmc_desk.vmc_desk_verify.Statement.{statement}
 use Rattle.vmc.proofs.vmc_desk.vmc_desk_verify.Tie as tie
 

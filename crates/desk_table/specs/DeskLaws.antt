@@ -10,8 +10,8 @@ use Rattle.forms.specs.declared.terms.CounterId.{CounterId}
 use Rattle.validity.specs.Proof.{knownForm, shapeAt, miscounted, overcounted, laidOut, logOffset, parsed}
 use Rattle.validity.specs.declared.proof.Parsed.{Parsed}
 use Rattle.validity.specs.declared.proof.Proof.{Proof}
-use Rattle.desk.specs.Answer.{Answer}
-use Rattle.desk.specs.Desk.{badWanted, judged, verified}
+use Rattle.desk_table.specs.Answer.{Answer}
+use Rattle.desk_table.specs.Desk.{badWanted, judged, verified}
 
 -- checks 2 to 5 are those of reading; a proof is judged further
 abbrev pub answerOf : (Proof → Answer) → Parsed → Answer

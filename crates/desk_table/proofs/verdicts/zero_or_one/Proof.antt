@@ -1,4 +1,4 @@
--- `desk::verdicts::zero_or_one` meets its contract: no byte passed is over 1, or one was and the answer stands. Assumes nothing.
+-- `desk_table::verdicts::zero_or_one` meets its contract: no byte passed is over 1, or one was and the answer stands. Assumes nothing.
 use mathlib.Core.Path.{_≡_, refl, sym, _∙_}
 use mathlib.Core.Bool.{true, false}
 use mathlib.Core.Logic.{_⊎_, inl, inr, ⊎-elim}
@@ -7,10 +7,10 @@ use native.Mathlib.Omega.{arith}
 use borrow.Author.Needs.{needs}
 use borrow.Author.Count.{below-more}
 use lib.ListN.{length, getD}
-use Rattle.desk.specs.Desk.{zeroOrOne}
-use Rattle.desk.specs.VerdictsLaws.{zero-or-one-yes, zero-or-one-no}
-use Rattle.desk.proofs.verdicts.zero_or_one.Statement.{statement}
-use Rattle.desk.proofs.verdicts.zero_or_one.Tie as tie
+use Rattle.desk_table.specs.Desk.{zeroOrOne}
+use Rattle.desk_table.specs.VerdictsLaws.{zero-or-one-yes, zero-or-one-no}
+use Rattle.desk_table.proofs.verdicts.zero_or_one.Statement.{statement}
+use Rattle.desk_table.proofs.verdicts.zero_or_one.Tie as tie
 
 abbrev Inv-loop : tie.InvT-loop
 Inv-loop verdicts i₀ fine₀ i fine =

@@ -23,8 +23,8 @@ use Rattle.forms.specs.Chain.{fromValue, stepBy, followsBy}
 use Rattle.validity.specs.declared.proof.Kind.{Kind}
 use Rattle.validity.specs.declared.proof.Proof.{Proof}
 use Rattle.validity.specs.Proof.{Fields, fieldsLen, shapeOf, knownForm, shapeAt, miscounted, overcounted, laidOut, confirmationOffset, certificateOffset, logOffset}
-use Rattle.desk.specs.Answer.{Answer}
-use Rattle.desk.specs.Lowest.{lowest}
+use Rattle.desk_table.specs.Answer.{Answer}
+use Rattle.desk_table.specs.Lowest.{lowest}
 
 -- ---- the parts of a proof
 

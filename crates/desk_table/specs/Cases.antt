@@ -1,7 +1,7 @@
--- Document 01's "Twelve proofs at the desk", cases A to L, with G as document 02's Note 5 has it, and four more of unsigned entries, as one
--- table: each row is a proof by its fields, its verdicts, what is wanted, and the answer's number, value, place and openings. Each entry carries one
--- request, and its nonce is the digest of that. One theorem says that the desk's definition gives every row its answer, whatever the digests are.
--- Assumes nothing.
+-- Document 01's "Twelve proofs at the desk", cases A to L, with G as document 02's Note 5 has it, and six more, four of unsigned entries, one of the
+-- nonce that a proof of kind 2 closes on and one of another counter's reading, as one table: each row is a proof by its fields, its verdicts, what is
+-- wanted, and the answer's number, value, place and openings. Each entry carries one request, and its nonce is the digest of that. One theorem says
+-- that the desk's definition gives every row its answer, whatever the digests are. Assumes nothing.
 use mathlib.Core.Path.{_≡_, refl, sym, ap, _∙_, subst, subst⁻¹}
 use Prim.Native.Nat.{ℕ, suc}
 use mathlib.Core.Bool.{Bool, true, false, not, cond, _&&_}
@@ -27,11 +27,12 @@ use Rattle.forms.specs.declared.confirmation.Confirmation.{Confirmation}
 use Rattle.validity.specs.Proof.{Fields, read, increment, shapeOf, logOffset, headerOf, headerBytes, encode, parsed}
 use Rattle.validity.specs.declared.proof.Parsed.{Parsed}
 use Rattle.validity.specs.declared.proof.Proof.{Proof}
-use Rattle.desk.specs.Answer.{Answer, Figures, figures}
-use Rattle.desk.specs.Lowest.{lowestFrom, lowest}
-use Rattle.desk.specs.Desk.{allYes, zeroOrOne, verdictsTo, isOwn, runningTo, badWanted, badVerdicts, badConfirmation, certificateDenied, moduleDenied}
-use Rattle.desk.specs.Desk.{forged, repeated, closesElsewhere, wrongReading, wrongClosing, breaksChain, closing, lowestEntry, laterChecks, accepted, judged, verified}
-use Rattle.desk.specs.DeskLaws.{answerOf, verified-parsed}
+use Rattle.desk_table.specs.Answer.{Answer, Figures, figures}
+use Rattle.desk_table.specs.Lowest.{lowestFrom, lowest}
+use Rattle.desk_table.specs.Desk.{allYes, zeroOrOne, verdictsTo, isOwn, runningTo, badWanted, badVerdicts, badConfirmation, certificateDenied}
+use Rattle.desk_table.specs.Desk.{moduleDenied, forged, repeated, closesElsewhere, wrongReading, wrongClosing, breaksChain, closing}
+use Rattle.desk_table.specs.Desk.{lowestEntry, laterChecks, accepted, judged, verified}
+use Rattle.desk_table.specs.DeskLaws.{answerOf, verified-parsed}
 
 -- ---- a row
 
@@ -157,6 +158,10 @@ module _ (digest : List Request → List ℕ) where
       ∷ row (onRead (confirmed 7 100 100) 103 (first ∷ entry 2 102 7 4294967295 ∷ third ∷ [])) (1 ∷ 1 ∷ 1 ∷ 1 ∷ 1 ∷ 0 ∷ 1 ∷ 1 ∷ []) asked 0 103 0 2
       -- kind 2, owner's no at entry 3, whose counter and nonce are the wanted ones
       ∷ row (onIncrement (confirmed 7 100 100) (first ∷ second ∷ third ∷ [])) (1 ∷ 1 ∷ 1 ∷ 1 ∷ 1 ∷ 1 ∷ 0 ∷ []) (nonceOf 3) 10 0 0 0
+      -- kind 2, another nonce wanted than that of the request in entry 3, which is counter 7's with the owner's yes
+      ∷ row (onIncrement (confirmed 7 100 100) (first ∷ second ∷ third ∷ [])) (1 ∷ 1 ∷ 1 ∷ 1 ∷ 1 ∷ 1 ∷ 1 ∷ []) (nonceOf 6) 10 0 0 0
+      -- entry 2, another counter's, with reading 105 where 102 is due
+      ∷ plain (onRead (confirmed 7 100 100) 103 (first ∷ entry 2 105 9 100 ∷ third ∷ [])) 11 0 2 0
       ∷ []
 
 -- "each entry's nonce being its requests' digest"

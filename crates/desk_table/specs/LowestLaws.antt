@@ -6,7 +6,7 @@ use native.Mathlib.Omega.{arith}
 use native.Mathlib.Decide.{decLe}
 use mathlib.Core.Bool.{Bool, true, false, cond}
 use lib.Dec.{eqb, eqb·suc-zero}
-use Rattle.desk.specs.Lowest.{lowestFrom, lowest}
+use Rattle.desk_table.specs.Lowest.{lowestFrom, lowest}
 
 -- none of the places 1 to i is bad
 abbrev pub Clear : (ℕ → Bool) → ℕ → Type 0

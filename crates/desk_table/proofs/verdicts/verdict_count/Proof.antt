@@ -1,4 +1,4 @@
--- `desk::verdicts::verdict_count` meets its contract: a length that ends before the log has no entries. Assumes nothing.
+-- `desk_table::verdicts::verdict_count` meets its contract: a length that ends before the log has no entries. Assumes nothing.
 use mathlib.Core.Path.{_≡_, sym, ap, ap₂, _∙_}
 use Prim.Native.Nat.{ℕ, _+_, _-_, _/_}
 use native.Mathlib.Nat.{add-zero}
@@ -7,10 +7,10 @@ use borrow.Author.Needs.{needs}
 use Rattle.forms.specs.Limits.{requestLen}
 use Rattle.validity.specs.Proof.{logOffset}
 use Rattle.validity.specs.declared.proof.Proof.{Proof}
-use Rattle.desk.specs.Desk.{verdictsBefore}
-use Rattle.desk.specs.VerdictsLaws.{before-bound}
-use Rattle.desk.proofs.verdicts.verdict_count.Statement.{statement}
-use Rattle.desk.proofs.verdicts.verdict_count.Tie as tie
+use Rattle.desk_table.specs.Desk.{verdictsBefore}
+use Rattle.desk_table.specs.VerdictsLaws.{before-bound}
+use Rattle.desk_table.proofs.verdicts.verdict_count.Statement.{statement}
+use Rattle.desk_table.proofs.verdicts.verdict_count.Tie as tie
 
 -- how many stand before the entries', and where the log begins, by the kind that was asked
 before-entries : (c : tie.After-count-before) → c .count-before .result ≡ verdictsBefore (c .before .before .args .kind)

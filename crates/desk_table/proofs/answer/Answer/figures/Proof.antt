@@ -1,9 +1,9 @@
--- `desk::answer::Answer::figures` meets its contract, by the two answers. Assumes nothing.
+-- `desk_table::answer::Answer::figures` meets its contract, by the two answers. Assumes nothing.
 use mathlib.Core.Path.{sym, ap}
 use borrow.Author.Needs.{needs}
-use Rattle.desk.specs.Answer.{figures}
-use Rattle.desk.proofs.answer.Answer.figures.Statement.{statement}
-use Rattle.desk.proofs.answer.Answer.figures.Tie as tie
+use Rattle.desk_table.specs.Answer.{figures}
+use Rattle.desk_table.proofs.answer.Answer.figures.Statement.{statement}
+use Rattle.desk_table.proofs.answer.Answer.figures.Tie as tie
 
 accepted : tie.Need-returns
 accepted c = sym (ap figures (c .before .self .given .1))

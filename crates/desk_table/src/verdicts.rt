@@ -5,11 +5,7 @@ use forms::request::Request;
 use validity::proof::Kind;
 use validity::proof::Proof;
 ghost use mathlib.Core.Path.{_≡_};
-ghost use mathlib.Core.Bool.{true};
-ghost use lib.ListN.{length};
-ghost use Rattle.forms.specs.Log.{endsAt, walk};
-ghost use Rattle.validity.specs.Proof.{logOffset};
-ghost use Rattle.desk.specs.Desk.{verdictsBefore, verdictsFor, zeroOrOne, ownBy, badVerdicts, certificateDenied};
+ghost use Rattle.desk_table.specs.Desk.{verdictsBefore, verdictsFor, zeroOrOne, ownBy, certificateDenied};
 
 // How many verdicts there are on a proof of a kind and a whole length: so many a station has to hand over.
 //
@@ -26,8 +22,11 @@ pub fn verdict_count(kind: Kind, len: usize) -> usize
     before + (len - log) / Request::LEN
 }
 
-// How many verdicts stand before those of the entries.
-pub(crate) fn count_before(proof: Proof) -> usize
+// How many verdicts stand before those of the entries: the confirmation's, and in a read's proof the clock certificate's. The first entry's stand from
+// that place on, however many entries there are.
+//
+// Ruled out, among others: a certificate's verdict in kind 2; a number that goes by the count of entries.
+pub fn count_before(proof: Proof) -> usize
     ensures { λ r. ⌜ r ≡ verdictsBefore (proof .kind) ⌝ }
 {
     let kind = proof.kind;
@@ -37,8 +36,11 @@ pub(crate) fn count_before(proof: Proof) -> usize
     }
 }
 
-// Whether every verdict is 0 or 1. The loop has one way out, so that the compiler tests many bytes at once.
-fn zero_or_one(verdicts: &[u8]) -> bool
+// Whether every verdict is 0 or 1; of a list of none, yes. How many there have to be is not asked here. The loop has one way out, so that the
+// compiler tests many bytes at once.
+//
+// Ruled out, among others: a last byte that is not looked at; no to every list.
+pub fn zero_or_one(verdicts: &[u8]) -> bool
     ensures { λ r. ⌜ r ≡ zeroOrOne (now (verdicts .entry)) ⌝ }
 {
     let mut i = 0;
@@ -52,28 +54,21 @@ fn zero_or_one(verdicts: &[u8]) -> bool
     fine
 }
 
-// Whether an entry is the wanted counter's own, by whether a request of it names the counter and by the owner's verdict on that request. Here alone
-// that verdict counts.
-pub(crate) fn is_own(named: bool, verdict: u8) -> bool
+// Whether an entry is the wanted counter's own: a request of it names the counter, and the owner's verdict on that request is not 0. Where no request
+// names the counter the verdict does not count.
+//
+// Ruled out, among others: an entry taken for the counter's own on the owner's no; one without a request of the counter taken on a yes.
+pub fn is_own(named: bool, verdict: u8) -> bool
     ensures { λ r. ⌜ r ≡ ownBy named verdict ⌝ }
 {
     named & (verdict != 0)
 }
 
-// Check 6: whether the list has another length than the proof asks for, or a byte over 1.
-pub(crate) fn bad(proof: Proof, s: &[u8], verdicts: &[u8]) -> bool
-    requires { ⌜ endsAt (walk (now s) (logOffset (proof .kind)) (proof .count)) (length (now s)) ≡ true ⌝ }
-    ensures { λ r. ⌜ r ≡ badVerdicts proof (now (s .entry)) (now (verdicts .entry)) ⌝ }
-{
-    let kind = proof.kind;
-    if verdicts.len() != verdict_count(kind, s.len()) {
-        return true;
-    }
-    !zero_or_one(verdicts)
-}
-
-// Check 9 at the clock certificate.
-pub(crate) fn certificate_denied(proof: Proof, verdicts: &[u8]) -> bool
+// Check 9 at the clock certificate: whether the verdict on it is no; one that is not there counts as no. An increment's proof has no certificate, and
+// this check never refuses it.
+//
+// Ruled out, among others: the confirmation's verdict taken for the certificate's; an increment's proof refused for the verdict on its first entry.
+pub fn certificate_denied(proof: Proof, verdicts: &[u8]) -> bool
     ensures { λ r. ⌜ r ≡ certificateDenied (proof .kind) (now (verdicts .entry)) ⌝ }
 {
     let kind = proof.kind;

@@ -2,7 +2,7 @@
 use forms::running::Running;
 use forms::terms::GlobalClock;
 ghost use mathlib.Core.Path.{_≡_};
-ghost use Rattle.desk.specs.Answer.{figures};
+ghost use Rattle.desk_table.specs.Answer.{figures};
 
 pub enum Answer {
     // The counter's value at the reading that the proof closes on, and how often it was raised since the proof's own confirmation.
@@ -22,6 +22,10 @@ pub struct Figures {
 }
 
 impl Answer {
+    // The five figures of an answer: of an accepted proof number and place are 0; of a refused one value, closing reading and openings are, so that
+    // nothing in them passes for a value.
+    //
+    // Ruled out, among others: the same value whatever the entries; a refusal that shows openings.
     pub fn figures(self) -> Figures
         ensures { λ r. ⌜ r ≡ figures self ⌝ }
     {

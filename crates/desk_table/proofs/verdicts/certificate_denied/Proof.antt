@@ -1,12 +1,12 @@
--- `desk::verdicts::certificate_denied` meets its contract, by the kind. Assumes nothing.
+-- `desk_table::verdicts::certificate_denied` meets its contract, by the kind. Assumes nothing.
 use mathlib.Core.Path.{sym, ap, _∙_}
 use Prim.Native.Nat.{ℕ}
 use lib.Dec.{eqb}
 use borrow.Author.Needs.{needs}
 use Rattle.validity.specs.declared.proof.Kind.{Kind}
-use Rattle.desk.specs.Desk.{certificateDenied}
-use Rattle.desk.proofs.verdicts.certificate_denied.Statement.{statement}
-use Rattle.desk.proofs.verdicts.certificate_denied.Tie as tie
+use Rattle.desk_table.specs.Desk.{certificateDenied}
+use Rattle.desk_table.proofs.verdicts.certificate_denied.Statement.{statement}
+use Rattle.desk_table.proofs.verdicts.certificate_denied.Tie as tie
 
 read : tie.Need-returns
 unfolding certificateDenied

@@ -1,13 +1,13 @@
--- `desk::verdicts::bad` meets its contract: the proof's length gives the count that is asked for. Assumes nothing.
+-- `desk::verify::bad_verdicts` meets its contract: the proof's length gives the count that is asked for. Assumes nothing.
 use mathlib.Core.Path.{_≡_, sym, ap, _∙_}
 use mathlib.Core.Bool.{Bool, not, _||_}
 use borrow.Author.Needs.{needs}
 use borrow.Author.Tests.{eq-eqb, ne-eqb}
 use lib.ListN.{length}
-use Rattle.desk.specs.Desk.{verdictCount, zeroOrOne, badVerdicts}
-use Rattle.desk.specs.VerdictsLaws.{verdicts-counted}
-use Rattle.desk.proofs.verdicts.bad.Statement.{statement}
-use Rattle.desk.proofs.verdicts.bad.Tie as tie
+use Rattle.desk_table.specs.Desk.{verdictCount, zeroOrOne, badVerdicts}
+use Rattle.desk.specs.LogVerdictsLaws.{verdicts-counted}
+use Rattle.desk.proofs.verify.bad_verdicts.Statement.{statement}
+use Rattle.desk.proofs.verify.bad_verdicts.Tie as tie
 
 abbrev start : tie.After-verdict-count → tie.Start
 start c = c .before .before .before
@@ -30,5 +30,5 @@ exact c =
     let yes = eq-eqb (length (a .verdicts .now)) (verdictCount (a .s .now) (a .proof)) (c .before .if1 .left ∙ length-asked (c .before .before)) in
     ap not (c .zero-or-one .ensures) ∙ sym (ap (λ (b : Bool). not b || not (zeroOrOne (a .verdicts .now))) yes)
 
-pub bad-spec : {M : Type 1} → statement M
-bad-spec = tie.close (tie.spec (λ c κs. search needs) other (λ c κs. search needs) exact)
+pub bad-verdicts-spec : {M : Type 1} → statement M
+bad-verdicts-spec = tie.close (tie.spec (λ c κs. search needs) other (λ c κs. search needs) exact)

@@ -1,0 +1,7 @@
+pub mod Answer
+pub mod Cases
+pub mod Desk
+pub mod DeskLaws
+pub mod Lowest
+pub mod LowestLaws
+pub mod VerdictsLaws
