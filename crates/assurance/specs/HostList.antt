@@ -8,7 +8,7 @@ use lib.ListN.{length, take}
 use Rattle.forms.specs.Bytes.{Bytes}
 use Rattle.forms.specs.Chain.{ownEntries}
 use Rattle.forms.specs.Limits.{imageLen}
-use Rattle.forms.specs.PartsLaws.{ConfirmationFits}
+use Rattle.forms.specs.Confirmation.{ConfirmationFits}
 use Rattle.forms.specs.declared.confirmation.Confirmation.{Confirmation}
 use Rattle.forms.specs.declared.running.Running.{Running}
 use Rattle.forms.specs.declared.terms.CounterId.{CounterId}

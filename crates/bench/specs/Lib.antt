@@ -1,6 +1,3 @@
 pub mod Bench
-pub mod BenchLaws
-pub mod OrderLaws
+pub mod Laws
 pub mod Result
-pub mod ResultLaws
-pub mod SessionLaws

@@ -19,7 +19,7 @@ ghost use Rattle.forms.specs.Bytes.{overwrite};
 ghost use Rattle.tablets.specs.Rounds.{depotOf, tabletsOf};
 ghost use Rattle.tablets.specs.Tablet.{maxTablets};
 ghost use Rattle.bench.specs.Bench.{Stage, noOrder, ordered, placed, refusedTablet, runOrdered, standingOf, startOrdered, tabletOrdered};
-ghost use Rattle.bench.specs.BenchLaws.{Told};
+ghost use Rattle.bench.specs.Laws.BenchLaws.{Told};
 ghost use Rattle.bench.specs.Result.{maxResult};
 
 // How far the order of lines is.

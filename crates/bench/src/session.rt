@@ -11,7 +11,7 @@ ghost use mathlib.Core.Path.{_≡_};
 ghost use Prim.Native.Nat.{_+_, _≤_};
 ghost use lib.ListN.{length};
 ghost use Rattle.console.specs.Lines.{Printed, byteTaken, closed, endedSession, fedSession, pendingOf};
-ghost use Rattle.console.specs.LinesLaws.{Took, sessionAt};
+ghost use Rattle.console.specs.Laws.LinesLaws.{Took, sessionAt};
 ghost use Rattle.bench.specs.Bench.{lineOrdered, pendingOrder, standingOf};
 ghost use Rattle.bench.specs.Result.{maxResult};
 

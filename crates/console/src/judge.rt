@@ -30,7 +30,7 @@ ghost use mathlib.Core.Bool.{true};
 ghost use Rattle.desk_table.specs.Desk.{verified};
 ghost use Rattle.grammar.specs.declared.command.Command.{Command};
 ghost use Rattle.console.specs.Step.{deskFigures, ran, yesFor};
-ghost use Rattle.console.specs.StepLaws.{FoundIn, FoundNonce};
+ghost use Rattle.console.specs.Laws.StepLaws.{FoundIn, FoundNonce};
 
 // The most verdicts on a proof: on the confirmation, on the certificate, and two on each entry of one request.
 const MAX_VERDICTS: usize = 2 + 2 * (LogEnd::MAX_UNITS as usize);

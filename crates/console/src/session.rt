@@ -11,7 +11,7 @@ ghost use mathlib.Core.List.{[]};
 ghost use Rattle.console.specs.Session.{lineAnswered, pendingCommand};
 ghost use Rattle.console.specs.Lines.{Printed, begun, byteTaken, closed, endedSession, extended, fedSession, pendingOf, within};
 ghost use Rattle.console.specs.Step.{maxAnswer};
-ghost use Rattle.console.specs.LinesLaws.{Took, sessionAt};
+ghost use Rattle.console.specs.Laws.LinesLaws.{Took, sessionAt};
 
 // The most bytes of a line before its newline.
 pub const MAX_LINE: usize = 80;

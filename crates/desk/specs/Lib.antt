@@ -1,5 +1,1 @@
-pub mod LogVerdictsLaws
-pub mod Progress
-pub mod ProgressLaws
-pub mod Reader
-pub mod WalkLaws
+pub mod Laws

@@ -1,7 +1,4 @@
 pub mod Answer
-pub mod Cases
 pub mod Desk
-pub mod DeskLaws
+pub mod Laws
 pub mod Lowest
-pub mod LowestLaws
-pub mod VerdictsLaws

@@ -1,6 +1,3 @@
-pub mod BlockLaws
-pub mod PaddingLaws
+pub mod Laws
 pub mod Seal
-pub mod SealLaws
 pub mod Sha1
-pub mod Sha1Laws

@@ -8,7 +8,7 @@ ghost use mathlib.Core.List.{List};
 ghost use mathlib.Core.Path.{_≡_};
 ghost use Prim.Native.Nat.{ℕ, _+_, _<_, _≤_};
 ghost use Rattle.forms.specs.Number.{words};
-ghost use Rattle.digest.specs.BlockLaws.{Done};
+ghost use Rattle.digest.specs.Laws.BlockLaws.{Done};
 ghost use Rattle.digest.specs.Sha1.{compressed, nextWord, round};
 
 // A hash value; in the rounds, the working variables.

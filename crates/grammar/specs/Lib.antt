@@ -1,6 +1,4 @@
 pub mod Command
-pub mod CommandLaws
+pub mod Laws
 pub mod Numeral
-pub mod NumeralLaws
-pub mod NumeralRoundTrip
 pub mod Order

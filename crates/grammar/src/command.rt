@@ -10,7 +10,7 @@ ghost use Prim.Native.Nat.{_≤_};
 ghost use lib.ListN.{length, take};
 ghost use Rattle.forms.specs.Bytes.{same};
 ghost use Rattle.grammar.specs.Command.{argumentsOf, commandOf, namedOne, namedThree, namedTwo, oneOf, thirdTo, twoOf};
-ghost use Rattle.grammar.specs.CommandLaws.{restOf};
+ghost use Rattle.grammar.specs.Laws.CommandLaws.{restOf};
 
 // The figures behind a line's name.
 pub enum Arguments {

@@ -4,7 +4,7 @@ ghost use mathlib.Core.Path.{_≡_};
 ghost use Prim.Native.Nat.{_-_, _≤_};
 ghost use lib.ListN.{length, take, drop};
 ghost use Rattle.grammar.specs.Numeral.{figureOf};
-ghost use Rattle.grammar.specs.NumeralLaws.{valueWithin};
+ghost use Rattle.grammar.specs.Laws.NumeralLaws.{valueWithin};
 
 // What stands in a field.
 pub enum Figure {

@@ -1,13 +1,6 @@
 pub mod History
-pub mod HistoryLaws
+pub mod Laws
 pub mod Nonce
-pub mod NonceLaws
 pub mod Openings
-pub mod OpeningsLaws
-pub mod ReadLaws
 pub mod Step
-pub mod StepLaws
 pub mod Value
-pub mod ValueLaws
-pub mod Walk
-pub mod WalkLaws

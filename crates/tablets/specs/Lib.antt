@@ -1,10 +1,4 @@
 pub mod Act
-pub mod ActLaws
-pub mod FigureLaws
-pub mod Idle
-pub mod IdleLaws
-pub mod NonceLaws
+pub mod Laws
 pub mod Rounds
-pub mod RoundsLaws
-pub mod RoundsLength
 pub mod Tablet

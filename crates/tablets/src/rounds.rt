@@ -8,7 +8,7 @@ ghost use mathlib.Core.Path.{_≡_};
 ghost use Prim.Native.Nat.{suc};
 ghost use lib.ListN.{length};
 ghost use mathlib.Core.List.{[]};
-ghost use Rattle.tablets.specs.Idle.{nextRound, nextTurn};
+ghost use Rattle.tablets.specs.Laws.Idle.{nextRound, nextTurn};
 ghost use Rattle.tablets.specs.Rounds.{afterRounds, afterTurns, depotOf, divides, tabletsOf, turnsFrom};
 
 // The tablets by their numbers, which count from 0.

@@ -1,4 +1,3 @@
+pub mod Laws
 pub mod Line
-pub mod LineLaws
 pub mod Text
-pub mod TextLaws

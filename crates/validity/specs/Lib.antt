@@ -1,3 +1,2 @@
+pub mod Laws
 pub mod Proof
-pub mod ProofLaws
-pub mod RoundTrip

@@ -9,14 +9,14 @@ use lib.Dec.{eqb}
 use lib.ListN.{set, take, drop}
 use borrow.Author.Tests.{eq-eqb, ne-eqb}
 use Rattle.forms.specs.Terms.{sameId}
-use Rattle.forms.specs.TermsLaws.{same-id, same-turned}
+use Rattle.forms.specs.Laws.TermsLaws.{same-id, same-turned}
 use Rattle.forms.specs.declared.confirmation.Confirmation.{Confirmation}
 use Rattle.forms.specs.declared.terms.CounterId.{CounterId}
 use Rattle.forms.specs.declared.terms.GlobalClock.{GlobalClock}
-use Rattle.forms.specs.TestsLaws.{neither}
+use Rattle.forms.specs.Laws.TestsLaws.{neither}
 use Rattle.log_image.specs.State.{Record}
 use Rattle.log_image.specs.Sound.{holds, indexOf, distinct, oldest}
-use Rattle.log_image.specs.PassLaws.{distinct-parts, nonzero}
+use Rattle.log_image.specs.Laws.PassLaws.{distinct-parts, nonzero}
 use Rattle.log_image.specs.Sound.{recordOf}
 use Rattle.log_store.specs.Effect.{updated, raisedTo, confirmedBy, without}
 

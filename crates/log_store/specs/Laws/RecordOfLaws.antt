@@ -4,9 +4,9 @@ use mathlib.Core.Path.{_≡_, refl, sym, ap, _∙_}
 use mathlib.Core.Bool.{Bool, true, false, cond, _||_, false≢true}
 use mathlib.Core.List.{List, [], _∷_, _++_}
 use Rattle.forms.specs.Terms.{sameId}
-use Rattle.forms.specs.TermsLaws.{same-id, same-turned}
+use Rattle.forms.specs.Laws.TermsLaws.{same-id, same-turned}
 use Rattle.forms.specs.declared.terms.CounterId.{CounterId}
-use Rattle.log_image.specs.PassLaws.{distinct-parts}
+use Rattle.log_image.specs.Laws.PassLaws.{distinct-parts}
 use Rattle.log_image.specs.Sound.{holds, distinct}
 use Rattle.log_image.specs.State.{Record}
 use Rattle.log_store.specs.Laws.EachRecordLaws.{Keeps, record-own, record-other}

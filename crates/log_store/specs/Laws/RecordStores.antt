@@ -11,15 +11,16 @@ use borrow.Author.Tests.{lt-ltb}
 use Rattle.forms.specs.Bytes.{Bytes, overwrite}
 use Rattle.forms.specs.Limits.{recordsOffset, recordLen, maxCounters}
 use Rattle.forms.specs.Number.{digits}
-use Rattle.forms.specs.PartsLaws.{ConfirmationFits, RecordFits}
+use Rattle.forms.specs.Confirmation.{ConfirmationFits}
+use Rattle.forms.specs.Laws.PartsLaws.{RecordFits}
 use Rattle.forms.specs.Record.{recordAt, recordBytes, taken}
 use Rattle.forms.specs.Terms.{sameId}
 use Rattle.forms.specs.declared.confirmation.Confirmation.{Confirmation}
 use Rattle.forms.specs.declared.terms.CounterId.{CounterId}
-use Rattle.log_image.specs.DecodeLaws.{count-counters}
-use Rattle.log_image.specs.FitLaws.{replace-record-fits}
-use Rattle.log_image.specs.ImageParts.{RecordsFit}
-use Rattle.log_image.specs.ImageRoundTrip.{StateFits, decode-encode, encode-bytes, encode-decode, encode-laid-out, laid-out-parts}
+use Rattle.log_image.specs.Laws.DecodeLaws.{count-counters}
+use Rattle.log_image.specs.Laws.FitLaws.{replace-record-fits}
+use Rattle.log_image.specs.Laws.ImageParts.{RecordsFit}
+use Rattle.log_image.specs.Laws.ImageRoundTrip.{StateFits, decode-encode, encode-bytes, encode-decode, encode-laid-out, laid-out-parts}
 use Rattle.log_image.specs.Sound.{holds, indexOf, laidOut, recordOf}
 use Rattle.log_image.specs.State.{Record, State, recordsAt, counterCount, countersPlace, decode, encode}
 use Rattle.log_store.specs.Laws.StoreLaws.{append-record, replace-record}

@@ -12,10 +12,10 @@ use Rattle.forms.specs.Number.{digits}
 use Rattle.forms.specs.Record.{recordAt}
 use Rattle.forms.specs.Terms.{sameId}
 use Rattle.forms.specs.declared.terms.CounterId.{CounterId}
-use Rattle.log_image.specs.DecodeLaws.{count-counters}
-use Rattle.log_image.specs.ImageParts.{RecordsFit, records-window}
-use Rattle.log_image.specs.ImageRoundTrip.{StateFits, decode-encode, encode-bytes, encode-decode, encode-laid-out, laid-out-parts}
-use Rattle.log_image.specs.RecordsLaws.{holds-index}
+use Rattle.log_image.specs.Laws.DecodeLaws.{count-counters}
+use Rattle.log_image.specs.Laws.ImageParts.{RecordsFit, records-window}
+use Rattle.log_image.specs.Laws.ImageRoundTrip.{StateFits, decode-encode, encode-bytes, encode-decode, encode-laid-out, laid-out-parts}
+use Rattle.log_image.specs.Laws.RecordsLaws.{holds-index}
 use Rattle.log_image.specs.Sound.{holds, indexOf, laidOut, recordOf}
 use Rattle.log_image.specs.State.{Record, State, recordsAt, recordsBytes, counterCount, decode, encode, countersPlace}
 use Rattle.log_store.specs.Laws.StoreLaws.{length-removed, remove-record}

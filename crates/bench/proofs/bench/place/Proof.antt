@@ -5,7 +5,7 @@ use native.Mathlib.Omega.{arith}
 use borrow.Author.Needs.{needs}
 use lib.ListN.{length, length-map, length-take}
 use Rattle.tablets.specs.Tablet.{maxTablets}
-use Rattle.bench.specs.BenchLaws.{placed-held}
+use Rattle.bench.specs.Laws.BenchLaws.{placed-held}
 use Rattle.bench.proofs.bench.place.Statement.{statement}
 use Rattle.bench.proofs.bench.place.Tie as tie
 

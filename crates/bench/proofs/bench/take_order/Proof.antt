@@ -3,7 +3,7 @@ use mathlib.Core.Path.{_≡_, ap}
 use borrow.Author.Needs.{needs}
 use Rattle.grammar.specs.declared.order.Order.{Order}
 use Rattle.bench.specs.Bench.{ordered, standingOf}
-use Rattle.bench.specs.BenchLaws.{told-as, told-passed}
+use Rattle.bench.specs.Laws.BenchLaws.{told-as, told-passed}
 use Rattle.bench.proofs.bench.take_order.Statement.{statement}
 use Rattle.bench.proofs.bench.take_order.Tie as tie
 

@@ -2,7 +2,7 @@
 use mathlib.Core.Path.{_≡_, ap}
 use borrow.Author.Needs.{needs}
 use Rattle.bench.specs.Bench.{Stage, runOrdered, standingOf}
-use Rattle.bench.specs.BenchLaws.{told-as, told-passed, told-run}
+use Rattle.bench.specs.Laws.BenchLaws.{told-as, told-passed, told-run}
 use Rattle.bench.proofs.bench.take_run.Statement.{statement}
 use Rattle.bench.proofs.bench.take_run.Tie as tie
 

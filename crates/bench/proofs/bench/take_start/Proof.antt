@@ -5,7 +5,7 @@ use Prim.Native.Nat.{ℕ}
 use borrow.Author.Needs.{needs}
 use Rattle.tablets.specs.declared.tablet.Tablet.{Tablet}
 use Rattle.bench.specs.Bench.{Stage, startOrdered, standingOf}
-use Rattle.bench.specs.BenchLaws.{told-as, told-passed, told-silent}
+use Rattle.bench.specs.Laws.BenchLaws.{told-as, told-passed, told-silent}
 use Rattle.bench.proofs.bench.take_start.Statement.{statement}
 use Rattle.bench.proofs.bench.take_start.Tie as tie
 

@@ -3,8 +3,8 @@ use mathlib.Core.Path.{_≡_, sym, ap, _∙_}
 use borrow.Author.Needs.{needs}
 use Rattle.tablets.specs.Rounds.{depotOf, tabletsOf}
 use Rattle.bench.specs.Bench.{Stage, placed, standingOf, tabletOrdered}
-use Rattle.bench.specs.BenchLaws.{tablet-placed, tablet-refused, told-as, told-passed, told-silent}
-use Rattle.bench.specs.OrderLaws.{room-for}
+use Rattle.bench.specs.Laws.BenchLaws.{tablet-placed, tablet-refused, told-as, told-passed, told-silent}
+use Rattle.bench.specs.Laws.OrderLaws.{room-for}
 use Rattle.bench.proofs.bench.take_tablet.Statement.{statement}
 use Rattle.bench.proofs.bench.take_tablet.Tie as tie
 

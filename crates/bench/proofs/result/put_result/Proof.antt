@@ -6,10 +6,10 @@ use native.Mathlib.Omega.{arith}
 use borrow.Author.Needs.{needs}
 use lib.ListN.{length, length-map, length-take}
 use lib.Seq.{getD-take}
-use Rattle.forms.specs.BytesLaws.{length-overwrite}
+use Rattle.forms.specs.Laws.BytesLaws.{length-overwrite}
 use Rattle.tablets.specs.Rounds.{tabletsOf}
 use Rattle.tablets.specs.Tablet.{maxTablets}
-use Rattle.bench.specs.ResultLaws.{Stored, all-stored, none-stored, one-stored, room-left}
+use Rattle.bench.specs.Laws.ResultLaws.{Stored, all-stored, none-stored, one-stored, room-left}
 use Rattle.bench.proofs.result.put_result.Statement.{statement}
 use Rattle.bench.proofs.result.put_result.Tie as tie
 

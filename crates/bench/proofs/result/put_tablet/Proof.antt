@@ -4,10 +4,10 @@ use Prim.Native.Nat.{_+_}
 use native.Mathlib.Omega.{arith}
 use borrow.Author.Needs.{needs}
 use lib.ListN.{length}
-use Rattle.forms.specs.BytesLaws.{length-overwrite}
+use Rattle.forms.specs.Laws.BytesLaws.{length-overwrite}
 use Rattle.text.specs.Line.{numeral, spaced}
-use Rattle.text.specs.LineLaws.{length-numeral, stored-fits}
-use Rattle.bench.specs.ResultLaws.{line-length, line-stored}
+use Rattle.text.specs.Laws.LineLaws.{length-numeral, stored-fits}
+use Rattle.bench.specs.Laws.ResultLaws.{line-length, line-stored}
 use Rattle.bench.proofs.result.put_tablet.Statement.{statement}
 use Rattle.bench.proofs.result.put_tablet.Tie as tie
 

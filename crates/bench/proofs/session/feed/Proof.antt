@@ -5,11 +5,11 @@ use native.Mathlib.Omega.{arith}
 use borrow.Author.Needs.{needs}
 use lib.ListN.{length, length-map}
 use Rattle.console.specs.Lines.{pendingOf}
-use Rattle.console.specs.LinesLaws.{Feeding, sessionAt, fed-none, fed-all, feeding-more, feeding-all, printed-at}
+use Rattle.console.specs.Laws.LinesLaws.{Feeding, sessionAt, fed-none, fed-all, feeding-more, feeding-all, printed-at}
 use Rattle.tablets.specs.Tablet.{maxTablets}
 use Rattle.bench.specs.Bench.{lineOrdered, standingOf}
 use Rattle.bench.specs.Result.{maxResult}
-use Rattle.bench.specs.SessionLaws.{line-short}
+use Rattle.bench.specs.Laws.SessionLaws.{line-short}
 use Rattle.bench.proofs.session.feed.Statement.{statement}
 use Rattle.bench.proofs.session.feed.Tie as tie
 

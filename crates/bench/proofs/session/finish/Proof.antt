@@ -5,7 +5,7 @@ use borrow.Author.Needs.{needs}
 use borrow.Author.Tests.{not-true, not-false}
 use lib.ListN.{length}
 use Rattle.console.specs.Lines.{Printed, Session}
-use Rattle.console.specs.LinesLaws.{ended-short, ended-idle, ended-closed, printed-at, took-printed}
+use Rattle.console.specs.Laws.LinesLaws.{ended-short, ended-idle, ended-closed, printed-at, took-printed}
 use Rattle.bench.specs.Bench.{Standing, lineOrdered, standingOf}
 use Rattle.bench.specs.Result.{maxResult}
 use Rattle.bench.proofs.session.finish.Statement.{statement}

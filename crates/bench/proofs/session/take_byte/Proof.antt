@@ -3,7 +3,7 @@ use mathlib.Core.Path.{subst}
 use native.Mathlib.Omega.{arith}
 use borrow.Author.Needs.{needs}
 use Rattle.console.specs.Lines.{Session}
-use Rattle.console.specs.LinesLaws.{Took, sessionAt, byte-newline, took-other}
+use Rattle.console.specs.Laws.LinesLaws.{Took, sessionAt, byte-newline, took-other}
 use Rattle.bench.specs.Bench.{Standing, lineOrdered, standingOf}
 use Rattle.bench.proofs.session.take_byte.Statement.{statement}
 use Rattle.bench.proofs.session.take_byte.Tie as tie

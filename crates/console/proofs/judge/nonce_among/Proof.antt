@@ -9,7 +9,7 @@ use Rattle.forms.specs.Entry.{countAt, lenOf, lenAt, entriesAt, offsetAt}
 use Rattle.forms.specs.Limits.{headLen, imageLogOffset, imageLen, maxRequests}
 use Rattle.forms.specs.Request.{placeOf, requestsAt}
 use Rattle.forms.specs.declared.terms.GlobalClock.{GlobalClock}
-use Rattle.console.specs.StepLaws.{FoundNonce, found-first, found-later, found-elsewhere, found-none, turn-within, turn-next}
+use Rattle.console.specs.Laws.StepLaws.{FoundNonce, found-first, found-later, found-elsewhere, found-none, turn-within, turn-next}
 use Rattle.console.proofs.judge.nonce_among.Statement.{statement}
 use Rattle.console.proofs.judge.nonce_among.Tie as tie
 

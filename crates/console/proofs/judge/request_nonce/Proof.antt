@@ -7,7 +7,7 @@ use borrow.Author.Tests.{not-true, not-false}
 use Rattle.forms.specs.Entry.{entriesAt}
 use Rattle.forms.specs.Limits.{imageLogOffset}
 use Rattle.log_image.specs.State.{decode}
-use Rattle.console.specs.StepLaws.{FoundNonce}
+use Rattle.console.specs.Laws.StepLaws.{FoundNonce}
 use Rattle.console.proofs.judge.request_nonce.Statement.{statement}
 use Rattle.console.proofs.judge.request_nonce.Tie as tie
 

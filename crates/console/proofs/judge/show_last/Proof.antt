@@ -3,7 +3,7 @@
 use mathlib.Core.Path.{ap, _∙_}
 use borrow.Author.Needs.{needs}
 use Rattle.console.specs.Step.{deskFigures, emptyOutput, ran}
-use Rattle.console.specs.StepLaws.{last-line-refused, last-line-judged}
+use Rattle.console.specs.Laws.StepLaws.{last-line-refused, last-line-judged}
 use Rattle.console.proofs.judge.show_last.Statement.{statement}
 use Rattle.console.proofs.judge.show_last.Tie as tie
 

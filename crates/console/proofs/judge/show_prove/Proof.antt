@@ -2,7 +2,7 @@
 use mathlib.Core.Path.{ap, _∙_}
 use borrow.Author.Needs.{needs}
 use Rattle.console.specs.Step.{deskFigures, emptyOutput, ran}
-use Rattle.console.specs.StepLaws.{prove-line-refused, prove-line-judged}
+use Rattle.console.specs.Laws.StepLaws.{prove-line-refused, prove-line-judged}
 use Rattle.console.proofs.judge.show_prove.Statement.{statement}
 use Rattle.console.proofs.judge.show_prove.Tie as tie
 

@@ -2,11 +2,11 @@
 use mathlib.Core.Path.{refl}
 use native.Mathlib.Omega.{arith}
 use borrow.Author.Needs.{needs}
-use Rattle.console.specs.AnswerLaws.{answer-short}
+use Rattle.console.specs.Laws.AnswerLaws.{answer-short}
 use Rattle.console.specs.Lines.{pendingOf}
-use Rattle.console.specs.LinesLaws.{took-closed}
+use Rattle.console.specs.Laws.LinesLaws.{took-closed}
 use Rattle.console.specs.Session.{lineAnswered}
-use Rattle.console.specs.SessionLaws.{line-answered}
+use Rattle.console.specs.Laws.SessionLaws.{line-answered}
 use Rattle.console.proofs.session.close_line.Statement.{statement}
 use Rattle.console.proofs.session.close_line.Tie as tie
 

@@ -5,9 +5,9 @@ use native.Mathlib.Omega.{arith}
 use borrow.Author.Needs.{needs}
 use lib.ListN.{length}
 use Rattle.console.specs.Lines.{pendingOf}
-use Rattle.console.specs.LinesLaws.{Feeding, sessionAt, fed-none, fed-all, feeding-more, feeding-all, printed-at}
+use Rattle.console.specs.Laws.LinesLaws.{Feeding, sessionAt, fed-none, fed-all, feeding-more, feeding-all, printed-at}
 use Rattle.console.specs.Session.{lineAnswered}
-use Rattle.console.specs.SessionLaws.{line-short}
+use Rattle.console.specs.Laws.SessionLaws.{line-short}
 use Rattle.console.specs.Step.{maxAnswer}
 use Rattle.console.proofs.session.feed.Statement.{statement}
 use Rattle.console.proofs.session.feed.Tie as tie

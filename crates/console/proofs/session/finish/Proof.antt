@@ -6,7 +6,7 @@ use borrow.Author.Needs.{needs}
 use borrow.Author.Tests.{not-true, not-false}
 use lib.ListN.{length}
 use Rattle.console.specs.Lines.{Printed, Session}
-use Rattle.console.specs.LinesLaws.{ended-short, ended-idle, ended-closed, printed-at, took-printed}
+use Rattle.console.specs.Laws.LinesLaws.{ended-short, ended-idle, ended-closed, printed-at, took-printed}
 use Rattle.console.specs.Session.{lineAnswered}
 use Rattle.console.specs.Step.{maxAnswer}
 use Rattle.console.proofs.session.finish.Statement.{statement}

@@ -5,7 +5,7 @@ use Prim.Native.Nat.{ℕ}
 use native.Mathlib.Omega.{arith}
 use borrow.Author.Needs.{needs}
 use Rattle.console.specs.Lines.{Session}
-use Rattle.console.specs.LinesLaws.{Took, sessionAt, byte-newline, took-other}
+use Rattle.console.specs.Laws.LinesLaws.{Took, sessionAt, byte-newline, took-other}
 use Rattle.console.specs.Session.{lineAnswered}
 use Rattle.console.proofs.session.take_byte.Statement.{statement}
 use Rattle.console.proofs.session.take_byte.Tie as tie

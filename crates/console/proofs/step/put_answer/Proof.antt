@@ -4,10 +4,10 @@ use Prim.Native.Nat.{_+_}
 use native.Mathlib.Omega.{arith}
 use borrow.Author.Needs.{needs}
 use lib.ListN.{length}
-use Rattle.forms.specs.BytesLaws.{length-overwrite}
+use Rattle.forms.specs.Laws.BytesLaws.{length-overwrite}
 use Rattle.text.specs.Line.{numeral}
-use Rattle.text.specs.LineLaws.{length-numeral, stored-fits}
-use Rattle.console.specs.AnswerLaws.{answer-length, answer-stored}
+use Rattle.text.specs.Laws.LineLaws.{length-numeral, stored-fits}
+use Rattle.console.specs.Laws.AnswerLaws.{answer-length, answer-stored}
 use Rattle.console.proofs.step.put_answer.Statement.{statement}
 use Rattle.console.proofs.step.put_answer.Tie as tie
 

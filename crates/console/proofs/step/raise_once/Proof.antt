@@ -10,7 +10,7 @@ use Rattle.forms.specs.Limits.{requestLen}
 use Rattle.forms.specs.Request.{requestBytes}
 use Rattle.forms.specs.declared.request.Request.{Request}
 use Rattle.console.specs.Step.{requestWith}
-use Rattle.console.specs.StepLaws.{request-stored, increment-line, increment-image}
+use Rattle.console.specs.Laws.StepLaws.{request-stored, increment-line, increment-image}
 use Rattle.console.proofs.step.raise_once.Statement.{statement}
 use Rattle.console.proofs.step.raise_once.Tie as tie
 

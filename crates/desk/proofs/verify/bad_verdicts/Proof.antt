@@ -5,7 +5,7 @@ use borrow.Author.Needs.{needs}
 use borrow.Author.Tests.{eq-eqb, ne-eqb}
 use lib.ListN.{length}
 use Rattle.desk_table.specs.Desk.{verdictCount, zeroOrOne, badVerdicts}
-use Rattle.desk.specs.LogVerdictsLaws.{verdicts-counted}
+use Rattle.desk.specs.Laws.LogVerdictsLaws.{verdicts-counted}
 use Rattle.desk.proofs.verify.bad_verdicts.Statement.{statement}
 use Rattle.desk.proofs.verify.bad_verdicts.Tie as tie
 

@@ -9,17 +9,17 @@ use borrow.Author.Tests.{eq-eqb, ne-eqb}
 use lib.Dec.{eqb}
 use lib.ListN.{drop, length}
 use Rattle.forms.specs.Checks.{firstOf}
-use Rattle.forms.specs.ChecksLaws.{passed, given}
+use Rattle.forms.specs.Laws.ChecksLaws.{passed, given}
 use Rattle.forms.specs.Limits.{maxUnits}
 use Rattle.forms.specs.Log.{endsAt, walk}
 use Rattle.forms.specs.declared.confirmation.Confirmation.{Confirmation}
 use Rattle.validity.specs.Proof.{logOffset}
-use Rattle.validity.specs.ProofLaws.{count-bound}
+use Rattle.validity.specs.Laws.ProofLaws.{count-bound}
 use Rattle.desk_table.specs.declared.answer.Answer.{Answer}
 use Rattle.desk_table.specs.Desk.{isNo, verdictsBefore, verdictCount, badConfirmation, laterChecks, accepted, judged, confirmation}
-use Rattle.desk_table.specs.VerdictsLaws.{before-bound}
-use Rattle.desk.specs.LogVerdictsLaws.{counted-verdicts}
-use Rattle.desk.specs.Progress.{Progress, progressAt}
+use Rattle.desk_table.specs.Laws.VerdictsLaws.{before-bound}
+use Rattle.desk.specs.Laws.LogVerdictsLaws.{counted-verdicts}
+use Rattle.desk.specs.Laws.Progress.{Progress, progressAt}
 use Rattle.desk.proofs.verify.judge.Statement.{statement}
 use Rattle.desk.proofs.verify.judge.Tie as tie
 

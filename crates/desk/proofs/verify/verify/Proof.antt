@@ -3,12 +3,12 @@ use mathlib.Core.Path.{_≡_, sym, ap, ap₂, _∙_}
 use mathlib.Core.Bool.{Bool, cond}
 use borrow.Author.Needs.{needs}
 use Rattle.validity.specs.Proof.{parsed}
-use Rattle.validity.specs.ProofLaws.{parsed-counted, parsed-ends}
+use Rattle.validity.specs.Laws.ProofLaws.{parsed-counted, parsed-ends}
 use Rattle.validity.specs.declared.proof.Parsed.{Parsed}
 use Rattle.validity.specs.declared.proof.Proof.{Proof}
 use Rattle.desk_table.specs.declared.answer.Answer.{Answer}
 use Rattle.desk_table.specs.Desk.{judged, verified}
-use Rattle.desk_table.specs.DeskLaws.{answerOf, verified-parsed}
+use Rattle.desk_table.specs.Laws.DeskLaws.{answerOf, verified-parsed}
 use Rattle.desk.proofs.verify.verify.Statement.{statement}
 use Rattle.desk.proofs.verify.verify.Tie as tie
 

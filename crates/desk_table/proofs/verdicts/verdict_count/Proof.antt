@@ -8,7 +8,7 @@ use Rattle.forms.specs.Limits.{requestLen}
 use Rattle.validity.specs.Proof.{logOffset}
 use Rattle.validity.specs.declared.proof.Proof.{Proof}
 use Rattle.desk_table.specs.Desk.{verdictsBefore}
-use Rattle.desk_table.specs.VerdictsLaws.{before-bound}
+use Rattle.desk_table.specs.Laws.VerdictsLaws.{before-bound}
 use Rattle.desk_table.proofs.verdicts.verdict_count.Statement.{statement}
 use Rattle.desk_table.proofs.verdicts.verdict_count.Tie as tie
 

@@ -8,7 +8,7 @@ use borrow.Author.Needs.{needs}
 use borrow.Author.Count.{below-more}
 use lib.ListN.{length, getD}
 use Rattle.desk_table.specs.Desk.{zeroOrOne}
-use Rattle.desk_table.specs.VerdictsLaws.{zero-or-one-yes, zero-or-one-no}
+use Rattle.desk_table.specs.Laws.VerdictsLaws.{zero-or-one-yes, zero-or-one-no}
 use Rattle.desk_table.proofs.verdicts.zero_or_one.Statement.{statement}
 use Rattle.desk_table.proofs.verdicts.zero_or_one.Tie as tie
 

@@ -8,7 +8,7 @@ use mathlib.Core.Path.{_≡_, sym, ap, _∙_}
 use borrow.Author.Needs.{needs}
 use lib.ListN.{length, set, getD, length-set}
 use lib.Seq.{paste, paste-zero, paste-suc}
-use Rattle.forms.specs.BytesLaws.{overwrite-out, overwrite-paste}
+use Rattle.forms.specs.Laws.BytesLaws.{overwrite-out, overwrite-paste}
 use Rattle.forms.proofs.bytes.put.Statement.{statement}
 use Rattle.forms.proofs.bytes.put.Tie as tie
 

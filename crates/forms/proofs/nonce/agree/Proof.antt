@@ -8,7 +8,7 @@ use borrow.Author.Tests.{leb-true}
 use lib.ListN.{length, take, drop}
 use lib.Seq.{length-take-le}
 use Rattle.forms.specs.Bytes.{window, same}
-use Rattle.forms.specs.BytesLaws.{length-window, window-part}
+use Rattle.forms.specs.Laws.BytesLaws.{length-window, window-part}
 use Rattle.forms.specs.Limits.{nonceLen}
 use Rattle.forms.proofs.nonce.agree.Statement.{statement}
 use Rattle.forms.proofs.nonce.agree.Tie as tie

@@ -9,7 +9,7 @@ use borrow.Author.Needs.{needs}
 use lib.ListN.{length, take, set, length-set}
 use lib.Seq.{take-suc-set, take-all}
 use Rattle.forms.specs.Bytes.{window}
-use Rattle.forms.specs.BytesLaws.{window-snoc, window-past}
+use Rattle.forms.specs.Laws.BytesLaws.{window-snoc, window-past}
 use Rattle.forms.specs.Limits.{nonceLen}
 use Rattle.forms.proofs.nonce.nonce_at.Statement.{statement}
 use Rattle.forms.proofs.nonce.nonce_at.Tie as tie

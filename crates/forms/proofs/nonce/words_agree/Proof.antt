@@ -4,7 +4,7 @@ use native.Mathlib.Omega.{arith}
 use borrow.Author.Needs.{needs}
 use Rattle.forms.specs.Bytes.{Bytes, same}
 use Rattle.forms.specs.Number.{words}
-use Rattle.forms.specs.WordsLaws.{words-more, nonces-compare}
+use Rattle.forms.specs.Laws.WordsLaws.{words-more, nonces-compare}
 use Rattle.forms.proofs.nonce.words_agree.Statement.{statement}
 use Rattle.forms.proofs.nonce.words_agree.Tie as tie
 

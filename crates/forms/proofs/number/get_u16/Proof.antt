@@ -1,6 +1,6 @@
 -- `forms::number::get_u16` meets its contract. Assumes nothing.
 use mathlib.Core.Path.{sym}
-use Rattle.forms.specs.NumberLaws.{bigEndian-past}
+use Rattle.forms.specs.Laws.NumberLaws.{bigEndian-past}
 use borrow.Author.Needs.{needs}
 use Rattle.forms.proofs.number.get_u16.Statement.{statement}
 use Rattle.forms.proofs.number.get_u16.Tie as tie

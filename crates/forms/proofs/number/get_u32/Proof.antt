@@ -3,7 +3,7 @@ use mathlib.Core.Path.{sym}
 use native.Mathlib.Omega.{arith}
 use borrow.Author.Needs.{needs}
 use borrow.Author.Tests.{leb-true}
-use Rattle.forms.specs.NumberLaws.{bigEndian-past}
+use Rattle.forms.specs.Laws.NumberLaws.{bigEndian-past}
 use Rattle.forms.proofs.number.get_u32.Statement.{statement}
 use Rattle.forms.proofs.number.get_u32.Tie as tie
 

@@ -4,7 +4,7 @@ use native.Mathlib.Omega.{arith}
 use native.Mathlib.Numerals.{towards-suc}
 use lib.ListN.{length-set}
 use Rattle.forms.specs.Number.{digits}
-use Rattle.forms.specs.BytesLaws.{overwrite-out, overwrite-sets}
+use Rattle.forms.specs.Laws.BytesLaws.{overwrite-out, overwrite-sets}
 use borrow.Author.Needs.{needs}
 use Rattle.forms.proofs.number.put_u16.Statement.{statement}
 use Rattle.forms.proofs.number.put_u16.Tie as tie

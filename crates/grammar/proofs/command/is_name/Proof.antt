@@ -7,7 +7,7 @@ use borrow.Author.Needs.{needs}
 use borrow.Author.Tests.{eq-eqb, ne-eqb}
 use lib.ListN.{length, take, drop}
 use Rattle.forms.specs.Bytes.{same}
-use Rattle.grammar.specs.CommandLaws.{name-differs, name-from, name-past}
+use Rattle.grammar.specs.Laws.CommandLaws.{name-differs, name-from, name-past}
 use Rattle.grammar.proofs.command.is_name.Statement.{statement}
 use Rattle.grammar.proofs.command.is_name.Tie as tie
 

@@ -5,7 +5,7 @@ use borrow.Author.Needs.{needs}
 use borrow.Author.Tests.{le-leb, lt-leb}
 use lib.ListN.{take, drop}
 use Rattle.forms.specs.Checks.{firstOf}
-use Rattle.forms.specs.ChecksLaws.{passed, given}
+use Rattle.forms.specs.Laws.ChecksLaws.{passed, given}
 use Rattle.grammar.specs.Command.{Command, twoRows}
 use Rattle.grammar.proofs.command.named_two.Statement.{statement}
 use Rattle.grammar.proofs.command.named_two.Tie as tie

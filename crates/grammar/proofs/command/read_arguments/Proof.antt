@@ -4,7 +4,7 @@ use mathlib.Core.Path.{_≡_, sym, ap, ap₂, _∙_}
 use native.Mathlib.Omega.{arith}
 use borrow.Author.Needs.{needs}
 use Rattle.grammar.specs.Command.{oneOf, twoOf, thirdTo}
-use Rattle.grammar.specs.CommandLaws.{Behind, none-behind, one-behind, two-behind, three-behind, more-behind}
+use Rattle.grammar.specs.Laws.CommandLaws.{Behind, none-behind, one-behind, two-behind, three-behind, more-behind}
 use Rattle.grammar.proofs.command.read_arguments.Statement.{statement}
 use Rattle.grammar.proofs.command.read_arguments.Tie as tie
 

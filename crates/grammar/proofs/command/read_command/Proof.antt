@@ -5,7 +5,7 @@ use Prim.Native.Nat.{ℕ}
 use native.Mathlib.Omega.{arith}
 use borrow.Author.Needs.{needs}
 use Rattle.grammar.specs.Command.{Arguments, named, commandOf}
-use Rattle.grammar.specs.CommandLaws.{command-named}
+use Rattle.grammar.specs.Laws.CommandLaws.{command-named}
 use Rattle.grammar.proofs.command.read_command.Statement.{statement}
 use Rattle.grammar.proofs.command.read_command.Tie as tie
 

@@ -8,7 +8,7 @@ use borrow.Author.Needs.{needs}
 use borrow.Author.Tests.{eqb-true, eqb-false}
 use lib.ListN.{take, drop}
 use Rattle.grammar.specs.Numeral.{Figure, figureOf, unpadded}
-use Rattle.grammar.specs.NumeralLaws.{length-part, part-at-first, unpadded-first, figure-none, figure-padded, figure-large, figure-number}
+use Rattle.grammar.specs.Laws.NumeralLaws.{length-part, part-at-first, unpadded-first, figure-none, figure-padded, figure-large, figure-number}
 use Rattle.grammar.proofs.numeral.read_figure.Statement.{statement}
 use Rattle.grammar.proofs.numeral.read_figure.Tie as tie
 

@@ -7,7 +7,7 @@ use borrow.Author.Needs.{needs}
 use borrow.Author.Tests.{ltb-true, ltb-false}
 use lib.ListN.{take, drop, getD}
 use Rattle.forms.specs.Limits.{largest}
-use Rattle.grammar.specs.NumeralLaws.{valueWithin, digit-below, digit-above, digit-within, within-none, within-next, within-stops, within-large}
+use Rattle.grammar.specs.Laws.NumeralLaws.{valueWithin, digit-below, digit-above, digit-within, within-none, within-next, within-stops, within-large}
 use Rattle.grammar.proofs.numeral.value_within.Statement.{statement}
 use Rattle.grammar.proofs.numeral.value_within.Tie as tie
 

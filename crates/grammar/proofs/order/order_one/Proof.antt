@@ -4,7 +4,7 @@ use Prim.Native.Nat.{ℕ}
 use borrow.Author.Needs.{needs}
 use lib.ListN.{take, drop}
 use Rattle.forms.specs.Checks.{firstOf}
-use Rattle.forms.specs.ChecksLaws.{passed, given}
+use Rattle.forms.specs.Laws.ChecksLaws.{passed, given}
 use Rattle.grammar.specs.Order.{Order, orderRows}
 use Rattle.grammar.proofs.order.order_one.Statement.{statement}
 use Rattle.grammar.proofs.order.order_one.Tie as tie

@@ -5,7 +5,7 @@ use Prim.Native.Nat.{ℕ}
 use native.Mathlib.Omega.{arith}
 use borrow.Author.Needs.{needs}
 use Rattle.grammar.specs.Command.{Arguments}
-use Rattle.grammar.specs.CommandLaws.{order-named}
+use Rattle.grammar.specs.Laws.CommandLaws.{order-named}
 use Rattle.grammar.specs.Order.{orderNamed, orderOf}
 use Rattle.grammar.proofs.order.read_order.Statement.{statement}
 use Rattle.grammar.proofs.order.read_order.Tie as tie

@@ -7,7 +7,7 @@ use lib.Dec.{eqb, ltb}
 use lib.ListN.{length}
 use borrow.Author.Tests.{eq-eqb, ne-eqb}
 use Rattle.forms.specs.Limits.{maxRequests, requestLen}
-use Rattle.forms.specs.TestsLaws.{or-first, or-second}
+use Rattle.forms.specs.Laws.TestsLaws.{or-first, or-second}
 use Rattle.host.proofs.batch.bad_batch.Statement.{statement}
 use Rattle.host.proofs.batch.bad_batch.Tie as tie
 

@@ -8,10 +8,10 @@ use lib.ListN.{length}
 use Rattle.forms.specs.Bytes.{Bytes}
 use Rattle.forms.specs.Limits.{maxRequests, requestLen}
 use Rattle.log_image.specs.State.{decode}
-use Rattle.host.specs.Batch.{Stands}
-use Rattle.host.specs.BatchLaws.{GoodBatch, good-batch}
+use Rattle.host.specs.Laws.Batch.{Stands}
+use Rattle.host.specs.Laws.BatchLaws.{GoodBatch, good-batch}
 use Rattle.host.specs.Host.{askedFrom, judgedBatch}
-use Rattle.host.specs.JudgedLaws.{judged-none, judged-next}
+use Rattle.host.specs.Laws.JudgedLaws.{judged-none, judged-next}
 use Rattle.host.specs.declared.batch.Judged.{Judged}
 use Rattle.host.proofs.batch.judge_batch.Statement.{statement}
 use Rattle.host.proofs.batch.judge_batch.Tie as tie

@@ -9,16 +9,16 @@ use lib.Dec.{eqb}
 use lib.ListN.{length, drop}
 use Rattle.forms.specs.Bytes.{Bytes}
 use Rattle.forms.specs.Checks.{firstOf}
-use Rattle.forms.specs.ChecksLaws.{passed, given}
+use Rattle.forms.specs.Laws.ChecksLaws.{passed, given}
 use Rattle.forms.specs.Entry.{units}
 use Rattle.forms.specs.Limits.{maxUnits}
 use Rattle.forms.specs.Request.{names, requestAt, requestsAt}
-use Rattle.forms.specs.RequestLaws.{length-requests}
+use Rattle.forms.specs.Laws.RequestLaws.{length-requests}
 use Rattle.forms.specs.declared.request.Request.{Request}
 use Rattle.forms.specs.declared.terms.CounterId.{CounterId}
 use Rattle.log_image.specs.Sound.{holds}
 use Rattle.log_image.specs.State.{State, decode}
-use Rattle.host.specs.FittingLaws.{found-units}
+use Rattle.host.specs.Laws.FittingLaws.{found-units}
 use Rattle.host.specs.Host.{currentOf, requestRows}
 use Rattle.host.proofs.batch.request_refusal.Statement.{statement}
 use Rattle.host.proofs.batch.request_refusal.Tie as tie

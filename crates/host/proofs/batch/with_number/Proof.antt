@@ -3,7 +3,7 @@ use Prim.Native.Nat.{_+_, _-_, _*_}
 use native.Mathlib.Omega.{arith}
 use borrow.Author.Needs.{needs}
 use Rattle.forms.specs.Limits.{requestLen}
-use Rattle.host.specs.JudgedLaws.{number-kept, number-passed}
+use Rattle.host.specs.Laws.JudgedLaws.{number-kept, number-passed}
 use Rattle.host.proofs.batch.with_number.Statement.{statement}
 use Rattle.host.proofs.batch.with_number.Tie as tie
 

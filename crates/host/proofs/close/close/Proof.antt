@@ -8,7 +8,7 @@ use native.Mathlib.Omega.{arith}
 use borrow.Author.Needs.{needs}
 use borrow.Author.Tests.{not-true, not-false}
 use Rattle.forms.specs.Bytes.{Bytes}
-use Rattle.log_image.specs.ImageRoundTrip.{StateFits, sound-decode}
+use Rattle.log_image.specs.Laws.ImageRoundTrip.{StateFits, sound-decode}
 use Rattle.log_image.specs.Sound.{recordOf, sound}
 use Rattle.log_image.specs.State.{Record, State, decode, encode}
 use Rattle.log_store.specs.Effect.{withRecords, without}
@@ -16,11 +16,11 @@ use Rattle.log_store.specs.Laws.CutStores.{cut-stored}
 use Rattle.log_store.specs.Laws.EachRecordLaws.{oldest-without}
 use Rattle.log_store.specs.Laws.RemoveStores.{removed-proofs, removed-stored, without-fits}
 use Rattle.log_store.specs.Store.{logCut, proofsOf, recordRemoved}
-use Rattle.host.specs.FittingLaws.{image-of, state-fits}
+use Rattle.host.specs.Laws.FittingLaws.{image-of, state-fits}
 use Rattle.host.specs.Host.{closeRefusal, closedState}
-use Rattle.host.specs.RefusalLaws.{ClosePassed, close-passed}
-use Rattle.host.specs.SettledLaws.{ends-unsound, ends-refused, ends-done}
-use Rattle.host.specs.SoundParts.{sound-parts}
+use Rattle.host.specs.Laws.RefusalLaws.{ClosePassed, close-passed}
+use Rattle.host.specs.Laws.SettledLaws.{ends-unsound, ends-refused, ends-done}
+use Rattle.host.specs.Laws.SoundParts.{sound-parts}
 use Rattle.host.proofs.close.close.Statement.{statement}
 use Rattle.host.proofs.close.close.Tie as tie
 

@@ -7,7 +7,7 @@ use borrow.Author.Tests.{eq-eqb, ne-eqb, not-false}
 use lib.Dec.{eqb}
 use lib.ListN.{drop}
 use Rattle.forms.specs.Checks.{firstOf}
-use Rattle.forms.specs.ChecksLaws.{passed, given}
+use Rattle.forms.specs.Laws.ChecksLaws.{passed, given}
 use Rattle.forms.specs.declared.terms.GlobalClock.{GlobalClock}
 use Rattle.log_image.specs.State.{State, decode}
 use Rattle.host.specs.Host.{currentOf, closeRows}

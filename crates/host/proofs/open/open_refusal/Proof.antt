@@ -9,12 +9,12 @@ use lib.Dec.{eqb, ltb}
 use lib.ListN.{drop, length}
 use Rattle.forms.specs.Checks.{firstOf}
 use Rattle.forms.specs.declared.terms.GlobalClock.{GlobalClock}
-use Rattle.forms.specs.ChecksLaws.{passed, given}
-use Rattle.forms.specs.TestsLaws.{neither}
+use Rattle.forms.specs.Laws.ChecksLaws.{passed, given}
+use Rattle.forms.specs.Laws.TestsLaws.{neither}
 use Rattle.log_image.specs.State.{State, decode}
-use Rattle.log_image.specs.DecodeLaws.{count-entries}
+use Rattle.log_image.specs.Laws.DecodeLaws.{count-entries}
 use Rattle.host.specs.Host.{openRows}
-use Rattle.host.specs.IndexLaws.{bytes-sound}
+use Rattle.host.specs.Laws.IndexLaws.{bytes-sound}
 use Rattle.host.proofs.open.open_refusal.Statement.{statement}
 use Rattle.host.proofs.open.open_refusal.Tie as tie
 

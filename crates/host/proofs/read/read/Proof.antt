@@ -8,11 +8,11 @@ use borrow.Author.Tests.{eq-eqb, ne-eqb, not-true, not-false}
 use lib.ListN.{drop}
 use Rattle.forms.specs.declared.running.Running.{Running}
 use Rattle.forms.specs.Checks.{firstOf}
-use Rattle.forms.specs.ChecksLaws.{passed, given}
+use Rattle.forms.specs.Laws.ChecksLaws.{passed, given}
 use Rattle.log_image.specs.State.{State, decode}
 use Rattle.log_image.specs.Sound.{sound, holds}
 use Rattle.host.specs.Host.{ReadFigures, answered, readRows, readRefusal, readCall, runningOf}
-use Rattle.host.specs.SettledLaws.{answered-unsound, answered-refused, answered-done}
+use Rattle.host.specs.Laws.SettledLaws.{answered-unsound, answered-refused, answered-done}
 use Rattle.host.proofs.read.read.Statement.{statement}
 use Rattle.host.proofs.read.read.Tie as tie
 

@@ -1,6 +1,6 @@
 -- `host::refusal::bad_confirmation` meets its contract. Assumes nothing.
 use borrow.Author.Tests.{eq-eqb, ne-eqb}
-use Rattle.forms.specs.TestsLaws.{or-first, or-second}
+use Rattle.forms.specs.Laws.TestsLaws.{or-first, or-second}
 use Rattle.host.proofs.refusal.bad_confirmation.Statement.{statement}
 use Rattle.host.proofs.refusal.bad_confirmation.Tie as tie
 

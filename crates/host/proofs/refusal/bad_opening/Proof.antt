@@ -1,6 +1,6 @@
 -- `host::refusal::bad_opening` meets its contract. Assumes nothing.
 use borrow.Author.Tests.{lt-ltb, le-ltb}
-use Rattle.forms.specs.TestsLaws.{or-first, or-second}
+use Rattle.forms.specs.Laws.TestsLaws.{or-first, or-second}
 use Rattle.host.proofs.refusal.bad_opening.Statement.{statement}
 use Rattle.host.proofs.refusal.bad_opening.Tie as tie
 

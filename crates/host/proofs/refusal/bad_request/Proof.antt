@@ -2,7 +2,7 @@
 use mathlib.Core.Path.{_∙_}
 use borrow.Author.Needs.{needs}
 use borrow.Author.Tests.{eq-eqb, ne-eqb}
-use Rattle.forms.specs.TestsLaws.{or-first, or-second}
+use Rattle.forms.specs.Laws.TestsLaws.{or-first, or-second}
 use Rattle.host.proofs.refusal.bad_request.Statement.{statement}
 use Rattle.host.proofs.refusal.bad_request.Tie as tie
 

@@ -13,7 +13,7 @@ use Rattle.forms.specs.Number.{digits}
 use Rattle.forms.specs.Record.{recordBytes, taken}
 use Rattle.forms.specs.declared.record.Record.{Record}
 use Rattle.log_image.specs.State.{counterCount, countersPlace}
-use Rattle.log_store.specs.Store.{countersWith, recordAdded, recordPlace}
+use Rattle.log_store.specs.Store.{recordAdded, recordPlace}
 use Rattle.log_store.proofs.records.add_record.Statement.{statement}
 use Rattle.log_store.proofs.records.add_record.Tie as tie
 

@@ -1,8 +1,8 @@
 -- `log_store::records::remove_record` meets its contract. Assumes nothing.
 use mathlib.Core.Path.{_≡_, sym, ap, ap₂, _∙_}
-use mathlib.Core.Bool.{Bool, true, false, cond}
+use mathlib.Core.Bool.{Bool, true, cond}
 use mathlib.Core.List.{List}
-use Prim.Native.Nat.{ℕ, _+_, _-_, _*_, _<_}
+use Prim.Native.Nat.{ℕ, _-_, _*_, _<_}
 use native.Mathlib.Omega.{arith}
 use borrow.Author.Needs.{needs}
 use borrow.Author.Tests.{ltb-true, not-true, not-false}
@@ -12,7 +12,7 @@ use Rattle.forms.specs.Limits.{recordLen}
 use Rattle.forms.specs.Number.{be32, digits}
 use Rattle.forms.specs.Record.{proofsPlace, recordAt}
 use Rattle.log_image.specs.State.{counterCount, countersPlace}
-use Rattle.log_store.specs.Store.{hasRecord, indexIn, proofsOf, recordCount, recordPlace, recordRemoved, vacated}
+use Rattle.log_store.specs.Store.{hasRecord, indexIn, recordCount, recordPlace, recordRemoved, vacated}
 use Rattle.log_store.proofs.records.remove_record.Statement.{statement}
 use Rattle.log_store.proofs.records.remove_record.Tie as tie
 

@@ -2,7 +2,7 @@
 use mathlib.Core.Path.{sym, ap, _∙_}
 use borrow.Author.Needs.{needs}
 use Rattle.tablets.specs.Act.{Acted}
-use Rattle.tablets.specs.ActLaws.{act-full, act-refused, act-stale, act-succeeded}
+use Rattle.tablets.specs.Laws.ActLaws.{act-full, act-refused, act-stale, act-succeeded}
 use Rattle.tablets.specs.Tablet.{Tablet, adopting}
 use Rattle.tablets.proofs.act.act.Statement.{statement}
 use Rattle.tablets.proofs.act.act.Tie as tie

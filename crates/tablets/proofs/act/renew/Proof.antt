@@ -6,7 +6,7 @@ use Rattle.forms.specs.declared.confirmation.Confirmation.{Confirmation}
 use Rattle.host.specs.Host.{confirmCall}
 use Rattle.console.specs.Step.{emptyOutput, yes}
 use Rattle.tablets.specs.Act.{Renewed, confirmedBy, renewed}
-use Rattle.tablets.specs.ActLaws.{renew-judged}
+use Rattle.tablets.specs.Laws.ActLaws.{renew-judged}
 use Rattle.tablets.proofs.act.renew.Statement.{statement}
 use Rattle.tablets.proofs.act.renew.Tie as tie
 

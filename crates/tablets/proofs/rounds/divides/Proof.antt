@@ -1,7 +1,7 @@
 -- `tablets::rounds::divides` meets its contract. Assumes nothing.
 use mathlib.Core.Path.{sym}
 use borrow.Author.Needs.{needs}
-use Rattle.tablets.specs.IdleLaws.{divides-none, divides-some}
+use Rattle.tablets.specs.Laws.IdleLaws.{divides-none, divides-some}
 use Rattle.tablets.proofs.rounds.divides.Statement.{statement}
 use Rattle.tablets.proofs.rounds.divides.Tie as tie
 

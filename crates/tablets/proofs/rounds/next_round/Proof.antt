@@ -7,8 +7,8 @@ use native.Mathlib.Omega.{arith}
 use borrow.Author.Needs.{needs}
 use lib.ListN.{length, getD, drop, length-map, length-take}
 use lib.Seq.{getD-take}
-use Rattle.tablets.specs.Idle.{never, nextRound, nextTurn}
-use Rattle.tablets.specs.IdleLaws.{next-bound, next-from, next-past}
+use Rattle.tablets.specs.Laws.Idle.{never, nextRound, nextTurn}
+use Rattle.tablets.specs.Laws.IdleLaws.{next-bound, next-from, next-past}
 use Rattle.tablets.specs.Rounds.{nobody, tabletsOf}
 use Rattle.tablets.specs.Tablet.{Tablet, maxTablets}
 use Rattle.tablets.proofs.rounds.next_round.Statement.{statement}

@@ -3,7 +3,7 @@ use mathlib.Core.Path.{sym}
 use native.Mathlib.Nat.{div-le-self}
 use native.Mathlib.Omega.{arith}
 use borrow.Author.Needs.{needs}
-use Rattle.tablets.specs.IdleLaws.{turn-near, turn-none, turn-some}
+use Rattle.tablets.specs.Laws.IdleLaws.{turn-near, turn-none, turn-some}
 use Rattle.tablets.proofs.rounds.next_turn.Statement.{statement}
 use Rattle.tablets.proofs.rounds.next_turn.Tie as tie
 

@@ -5,10 +5,10 @@ use Prim.Native.Nat.{ℕ, _+_, _-_, _<_}
 use native.Mathlib.Omega.{arith}
 use borrow.Author.Needs.{needs}
 use lib.ListN.{length}
-use Rattle.tablets.specs.Idle.{never}
-use Rattle.tablets.specs.IdleLaws.{next-later}
+use Rattle.tablets.specs.Laws.Idle.{never}
+use Rattle.tablets.specs.Laws.IdleLaws.{next-later}
 use Rattle.tablets.specs.Rounds.{afterRounds, depotOf, tabletsOf}
-use Rattle.tablets.specs.RoundsLaws.{passed-over, round-taken, run-over}
+use Rattle.tablets.specs.Laws.RoundsLaws.{passed-over, round-taken, run-over}
 use Rattle.tablets.proofs.rounds.run.Statement.{statement}
 use Rattle.tablets.proofs.rounds.run.Tie as tie
 

@@ -9,7 +9,7 @@ use borrow.Author.Needs.{needs}
 use lib.ListN.{length, drop, length-map, length-set, length-take}
 use lib.Seq.{getD-take}
 use Rattle.tablets.specs.Rounds.{Fleet, afterTurns, depotOf, divides, nobody, tabletOf, tabletsOf, turnsFrom}
-use Rattle.tablets.specs.RoundsLaws.{fleet-turned, round-over, turn-missed, turn-taken}
+use Rattle.tablets.specs.Laws.RoundsLaws.{fleet-turned, round-over, turn-missed, turn-taken}
 use Rattle.tablets.specs.Tablet.{Tablet, maxTablets}
 use Rattle.tablets.proofs.rounds.take_round.Statement.{statement}
 use Rattle.tablets.proofs.rounds.take_round.Tie as tie

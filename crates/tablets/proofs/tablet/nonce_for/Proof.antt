@@ -1,6 +1,6 @@
 -- `tablets::tablet::nonce_for` meets its contract: its three numbers stand one behind the other. Assumes nothing.
 use borrow.Author.Needs.{needs}
-use Rattle.tablets.specs.NonceLaws.{nonce-stored}
+use Rattle.tablets.specs.Laws.NonceLaws.{nonce-stored}
 use Rattle.tablets.proofs.tablet.nonce_for.Statement.{statement}
 use Rattle.tablets.proofs.tablet.nonce_for.Tie as tie
 

@@ -6,7 +6,7 @@ use native.Mathlib.Omega.{arith}
 use borrow.Author.Needs.{needs}
 use lib.ListN.{length, drop}
 use Rattle.text.specs.Text.{checksum, mixed}
-use Rattle.text.specs.TextLaws.{fold-next, fold-past}
+use Rattle.text.specs.Laws.TextLaws.{fold-next, fold-past}
 use Rattle.text.proofs.checksum.checksum.Statement.{statement}
 use Rattle.text.proofs.checksum.checksum.Tie as tie
 

@@ -7,7 +7,7 @@ use native.Mathlib.Omega.{arith}
 use borrow.Author.Needs.{needs}
 use lib.ListN.{length, getD, drop}
 use Rattle.text.specs.Text.{FiguresRead, byteRead, figuresIn, putLast}
-use Rattle.text.specs.TextLaws.{digit-read, fold-next, fold-past, next-read}
+use Rattle.text.specs.Laws.TextLaws.{digit-read, fold-next, fold-past, next-read}
 use Rattle.text.proofs.figures.read_figures.Statement.{statement}
 use Rattle.text.proofs.figures.read_figures.Tie as tie
 

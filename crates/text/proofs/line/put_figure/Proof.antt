@@ -5,9 +5,9 @@ use lib.ListN.{length, take, replicate}
 use lib.Seq.{length-take-le}
 use native.Mathlib.Omega.{arith}
 use borrow.Author.Needs.{needs}
-use Rattle.forms.specs.BytesLaws.{length-overwrite}
+use Rattle.forms.specs.Laws.BytesLaws.{length-overwrite}
 use Rattle.text.specs.Line.{maxDigits, numeral, spaced}
-use Rattle.text.specs.LineLaws.{length-numeral, put-same, spaced-made}
+use Rattle.text.specs.Laws.LineLaws.{length-numeral, put-same, spaced-made}
 use Rattle.text.proofs.line.put_figure.Statement.{statement}
 use Rattle.text.proofs.line.put_figure.Tie as tie
 

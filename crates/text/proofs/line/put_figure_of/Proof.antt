@@ -4,7 +4,7 @@ use mathlib.Core.List.{[]}
 use native.Mathlib.Omega.{arith}
 use borrow.Author.Needs.{needs}
 use Rattle.text.specs.Line.{figureAt}
-use Rattle.text.specs.LineLaws.{figure-missing, figure-there, nothing-put, put-same}
+use Rattle.text.specs.Laws.LineLaws.{figure-missing, figure-there, nothing-put, put-same}
 use Rattle.text.proofs.line.put_figure_of.Statement.{statement}
 use Rattle.text.proofs.line.put_figure_of.Tie as tie
 

@@ -7,8 +7,8 @@ use native.Mathlib.Omega.{arith}
 use borrow.Author.Needs.{needs}
 use lib.ListN.{length, getD, drop}
 use Rattle.text.specs.Line.{Filled, byteFilled, filledIn}
-use Rattle.text.specs.LineLaws.{figure-filled, word-filled}
-use Rattle.text.specs.TextLaws.{fold-next, fold-past}
+use Rattle.text.specs.Laws.LineLaws.{figure-filled, word-filled}
+use Rattle.text.specs.Laws.TextLaws.{fold-next, fold-past}
 use Rattle.text.proofs.line.put_filled.Statement.{statement}
 use Rattle.text.proofs.line.put_filled.Tie as tie
 

@@ -3,7 +3,7 @@ use mathlib.Core.Path.{_∙_}
 use native.Mathlib.Omega.{arith}
 use borrow.Author.Needs.{needs}
 use Rattle.text.specs.Line.{numeral}
-use Rattle.text.specs.LineLaws.{decimal-numeral, put-same}
+use Rattle.text.specs.Laws.LineLaws.{decimal-numeral, put-same}
 use Rattle.text.proofs.line.put_numeral.Statement.{statement}
 use Rattle.text.proofs.line.put_numeral.Tie as tie
 

@@ -2,7 +2,7 @@
 use mathlib.Core.Path.{sym}
 use native.Mathlib.Omega.{arith}
 use borrow.Author.Needs.{needs}
-use Rattle.text.specs.LineLaws.{nothing-stored, stored-fits}
+use Rattle.text.specs.Laws.LineLaws.{nothing-stored, stored-fits}
 use Rattle.text.proofs.line.put_words.Statement.{statement}
 use Rattle.text.proofs.line.put_words.Tie as tie
 

@@ -5,7 +5,7 @@ use native.Mathlib.Omega.{arith}
 use borrow.Author.Needs.{needs}
 use lib.ListN.{length}
 use Rattle.text.specs.Text.{firstPlace}
-use Rattle.text.specs.TextLaws.{found-here, found-later, found-none}
+use Rattle.text.specs.Laws.TextLaws.{found-here, found-later, found-none}
 use Rattle.text.proofs.part.find.Statement.{statement}
 use Rattle.text.proofs.part.find.Tie as tie
 

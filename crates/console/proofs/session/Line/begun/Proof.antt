@@ -2,7 +2,7 @@
 use mathlib.Core.Path.{sym, _∙_}
 use borrow.Author.Needs.{needs}
 use lib.ListN.{length-map}
-use Rattle.console.specs.LinesLaws.{begun-held}
+use Rattle.console.specs.Laws.LinesLaws.{begun-held}
 use Rattle.console.proofs.session.Line.begun.Statement.{statement}
 use Rattle.console.proofs.session.Line.begun.Tie as tie
 

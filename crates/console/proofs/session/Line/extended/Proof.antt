@@ -3,7 +3,7 @@ use mathlib.Core.Path.{_≡_, sym, _∙_}
 use borrow.Author.Needs.{needs}
 use lib.ListN.{length, length-map}
 use Rattle.console.specs.Session.{maxLine}
-use Rattle.console.specs.LinesLaws.{extended-held, over-held}
+use Rattle.console.specs.Laws.LinesLaws.{extended-held, over-held}
 use Rattle.console.proofs.session.Line.extended.Statement.{statement}
 use Rattle.console.proofs.session.Line.extended.Tie as tie
 

@@ -6,7 +6,7 @@ use native.Mathlib.Omega.{arith}
 use borrow.Author.Needs.{needs}
 use Rattle.forms.specs.Number.{digits}
 use Rattle.forms.specs.Certificate.{certificateBytes}
-use Rattle.forms.specs.BytesLaws.{overwrite-out, stored-next}
+use Rattle.forms.specs.Laws.BytesLaws.{overwrite-out, stored-next}
 use Rattle.forms.proofs.certificate.Certificate.write.Statement.{statement}
 use Rattle.forms.proofs.certificate.Certificate.write.Tie as tie
 

@@ -3,7 +3,7 @@ use mathlib.Core.Path.{sym}
 use Prim.Native.Nat.{_+_}
 use native.Mathlib.Omega.{arith}
 use borrow.Author.Needs.{needs}
-use Rattle.forms.specs.NumberLaws.{bigEndian-past}
+use Rattle.forms.specs.Laws.NumberLaws.{bigEndian-past}
 use Rattle.forms.specs.Terms.{counterId, globalClock}
 use Rattle.forms.specs.Confirmation.{confirmationAt}
 use Rattle.forms.proofs.confirmation.Confirmation.read.Statement.{statement}

@@ -5,7 +5,7 @@ use native.Mathlib.Omega.{arith}
 use borrow.Author.Needs.{needs}
 use Rattle.forms.specs.Number.{digits}
 use Rattle.forms.specs.Confirmation.{confirmationBytes}
-use Rattle.forms.specs.BytesLaws.{overwrite-out, stored-next}
+use Rattle.forms.specs.Laws.BytesLaws.{overwrite-out, stored-next}
 use Rattle.forms.proofs.confirmation.Confirmation.write.Statement.{statement}
 use Rattle.forms.proofs.confirmation.Confirmation.write.Tie as tie
 

@@ -2,7 +2,7 @@
 use mathlib.Core.Path.{sym}
 use native.Mathlib.Omega.{arith}
 use borrow.Author.Needs.{needs}
-use Rattle.forms.specs.NumberLaws.{bigEndian-past}
+use Rattle.forms.specs.Laws.NumberLaws.{bigEndian-past}
 use Rattle.forms.specs.Record.{currentPlace, proofsPlace}
 use Rattle.forms.proofs.record.Record.read.Statement.{statement}
 use Rattle.forms.proofs.record.Record.read.Tie as tie

@@ -4,9 +4,9 @@ use mathlib.Core.List.{_++_}
 use native.Mathlib.Omega.{arith}
 use borrow.Author.Needs.{needs}
 use Rattle.forms.specs.Number.{digits}
-use Rattle.forms.specs.BytesLaws.{overwrite-out, stored-next}
+use Rattle.forms.specs.Laws.BytesLaws.{overwrite-out, stored-next}
 use Rattle.forms.specs.Confirmation.{confirmationBytes}
-use Rattle.forms.specs.PartsLaws.{confirmation-length, current-length, record-length}
+use Rattle.forms.specs.Laws.PartsLaws.{confirmation-length, current-length, record-length}
 use Rattle.forms.specs.Record.{recordBytes}
 use Rattle.forms.proofs.record.Record.write.Statement.{statement}
 use Rattle.forms.proofs.record.Record.write.Tie as tie

@@ -1,0 +1,11 @@
+pub mod BenchWitness
+pub mod CloseWitness
+pub mod DeskExample
+pub mod DeskWitness
+pub mod HostListWitness
+pub mod InvoiceWitness
+pub mod ServerDay
+pub mod ServerFaults
+pub mod ServerFaulty
+pub mod ServerOpened
+pub mod ServerWitness

@@ -1,0 +1,4 @@
+pub mod BenchLaws
+pub mod OrderLaws
+pub mod ResultLaws
+pub mod SessionLaws

@@ -1,0 +1,5 @@
+pub mod AnswerLaws
+pub mod LinesLaws
+pub mod LinesPrinted
+pub mod SessionLaws
+pub mod StepLaws

@@ -1,0 +1,5 @@
+pub mod LogVerdictsLaws
+pub mod Progress
+pub mod ProgressLaws
+pub mod Reader
+pub mod WalkLaws

@@ -1,0 +1,4 @@
+pub mod Cases
+pub mod DeskLaws
+pub mod LowestLaws
+pub mod VerdictsLaws

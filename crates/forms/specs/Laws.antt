@@ -1,0 +1,11 @@
+pub mod BytesLaws
+pub mod ChainLaws
+pub mod ChecksLaws
+pub mod EntryLaws
+pub mod LogLaws
+pub mod NumberLaws
+pub mod PartsLaws
+pub mod RequestLaws
+pub mod TermsLaws
+pub mod TestsLaws
+pub mod WordsLaws

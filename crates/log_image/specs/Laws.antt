@@ -1,0 +1,16 @@
+pub mod DecodeLaws
+pub mod EndLaws
+pub mod FitLaws
+pub mod FrameLaws
+pub mod HintLaws
+pub mod Hints
+pub mod ImageParts
+pub mod ImageRoundTrip
+pub mod LogLaws
+pub mod LookupLaws
+pub mod OutcomeLaws
+pub mod Pass
+pub mod PassLaws
+pub mod RecordsLaws
+pub mod SoundLaws
+pub mod ZeroLaws
