@@ -18,13 +18,13 @@ use Rattle.forms.specs.Request.{RequestsFit, names, nonceOf, beforeOf, joined}
 use Rattle.digest.specs.Sha1.{sha1}
 use Rattle.validity.specs.Proof.{logOffset, shapeAt}
 use Rattle.validity.specs.declared.proof.Kind.{Kind}
+use Rattle.desk_table.specs.Answer.{figures}
+use Rattle.desk_table.specs.declared.answer.Figures.{Figures}
+use Rattle.desk_table.specs.Desk.{verified, confirmation, certificate, entry, verdictsBefore, moduleVerdict, ownerVerdict}
 use Rattle.history.specs.History.{HistoryEvent, list, givenNonce, clockAfter, Made, made, unmade, incrementAt, ReadStands}
 use Rattle.history.specs.Nonce.{New}
 use Rattle.history.specs.Openings.{openingsBetween}
 use Rattle.history.specs.Value.{Signatures, valueAt}
-use Rattle.desk_table.specs.Answer.{figures}
-use Rattle.desk_table.specs.declared.answer.Figures.{Figures}
-use Rattle.desk_table.specs.Desk.{verified, confirmation, certificate, entry, verdictsBefore, moduleVerdict, ownerVerdict}
 
 -- ---- the list
 

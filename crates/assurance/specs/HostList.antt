@@ -14,9 +14,9 @@ use Rattle.forms.specs.declared.running.Running.{Running}
 use Rattle.forms.specs.declared.terms.CounterId.{CounterId}
 use Rattle.forms.specs.declared.terms.GlobalClock.{GlobalClock}
 use Rattle.validity.specs.Proof.{Fields, encode}
-use Rattle.log_image.specs.State.{decode}
 use Rattle.desk_table.specs.Answer.{figures}
 use Rattle.desk_table.specs.Desk.{allYes, verified}
+use Rattle.log_image.specs.State.{decode}
 use Rattle.host.specs.Host.{requestNonce, Settled, startCall, openCall, tickCall, incrementCall, readCall, proveCall, lastCall, confirmCall, closeCall, proofOf, lastEntries, lastOf, proveOutput, lastOutput}
 
 -- ---- the list

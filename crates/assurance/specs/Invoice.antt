@@ -11,9 +11,8 @@ use Rattle.forms.specs.Limits.{largest, imageLen}
 use Rattle.forms.specs.Terms.{sameId}
 use Rattle.forms.specs.declared.terms.CounterId.{CounterId}
 use Rattle.forms.specs.declared.terms.GlobalClock.{GlobalClock}
-use Rattle.log_image.specs.Sound.{holds}
+use Rattle.log_image.specs.Sound.{holds, recordOf}
 use Rattle.log_image.specs.State.{decode}
-use Rattle.log_image.specs.Sound.{recordOf}
 use Rattle.host.specs.Host.{startCall, closeCall}
 use Rattle.assurance.specs.HostList.{HostCall, settledBy, Widths}
 

@@ -17,10 +17,10 @@ use Rattle.forms.specs.declared.terms.CounterId.{CounterId}
 use Rattle.forms.specs.declared.terms.GlobalClock.{GlobalClock}
 use Rattle.validity.specs.Proof.{logOffset, shapeAt}
 use Rattle.validity.specs.declared.proof.Kind.{Kind}
+use Rattle.desk_table.specs.Desk.{confirmation, certificate, allYes, verdictsBefore, verdictCount, verdictPlace}
 use Rattle.history.specs.History.{Given, HistoryEvent, list, increment, read, clockAfter, incrementAt, Carries, ReadStands}
 use Rattle.history.specs.Value.{Signatures}
 use Rattle.log_image.specs.State.{decode}
-use Rattle.desk_table.specs.Desk.{confirmation, certificate, allYes, verdictsBefore, verdictCount, verdictPlace}
 use Rattle.host.specs.Host.{asked, judgedBatch, requestNonce, startCall, openCall, tickCall, incrementCall, proveCall, lastCall, proofOf, lastOf, proveOutput, lastOutput}
 use Rattle.assurance.specs.DeskList.{Call, Item, event, confirmed, call, At, history, Accepted, kindOf, entryOf, Shows, moduleSaid, Truth, Opening, Sound, Fresh}
 use Rattle.assurance.specs.HostList.{HostCall, settledBy, Widths}

@@ -1,9 +1,9 @@
 -- The text of a run's result: document 02, Note 8: "`run` prints a line per tablet, by number: raises made, answers 22, answers 24." Assumes nothing.
 use Prim.Native.Nat.{ℕ, _*_}
 use mathlib.Core.List.{List, [], _∷_, _++_}
-use Rattle.text.specs.Line.{numeral, spaced}
 use Rattle.tablets.specs.Tablet.{maxTablets}
 use Rattle.tablets.specs.declared.tablet.Tablet.{Tablet}
+use Rattle.text.specs.Line.{numeral, spaced}
 
 -- three figures, one space apart, and a newline
 unfoldable pub tabletLine : Tablet → List ℕ

@@ -10,17 +10,17 @@ use Rattle.forms.specs.Request.{requestBytes}
 use Rattle.forms.specs.declared.terms.CounterId.{CounterId}
 use Rattle.validity.specs.Proof.{Fields}
 use Rattle.validity.specs.declared.proof.Kind.{Kind}
-use Rattle.log_image.specs.State.{decode}
 use Rattle.desk_table.specs.Answer.{figures}
 use Rattle.desk_table.specs.Desk.{allYes, verdictsFor, verified}
 use Rattle.desk_table.specs.declared.answer.Answer.{Answer}
+use Rattle.log_image.specs.State.{decode}
 use Rattle.host.specs.Host.{Settled, startCall, openCall, tickCall, incrementCall, incrementFigures, readCall, proveCall, lastCall, confirmCall}
 use Rattle.host.specs.declared.answer.BatchFigures.{BatchFigures}
 use Rattle.host.specs.declared.answer.Figures.{Figures}
 use Rattle.host.specs.declared.answer.ReadFigures.{ReadFigures}
 use Rattle.host.specs.Host.{proofOf, lastOf, proveOutput, lastOutput, requestNonce}
-use Rattle.text.specs.Line.{numeral}
 use Rattle.grammar.specs.declared.command.Command.{Command}
+use Rattle.text.specs.Line.{numeral}
 
 -- "A byte b stands for a nonce of 20 bytes b"
 abbrev pub nonceOf : ℕ → List ℕ

@@ -18,8 +18,8 @@ use Rattle.forms.specs.Confirmation.{confirmationAt}
 use Rattle.forms.specs.Certificate.{certificateAt}
 use Rattle.forms.specs.Entry.{Entry, entryAt, countAt, offsetAt}
 use Rattle.forms.specs.Request.{names, placeOf, beforeOf, nonceOf, namesTwice}
-use Rattle.digest.specs.Seal.{isSealed}
 use Rattle.forms.specs.Chain.{fromValue, stepBy, followsBy}
+use Rattle.digest.specs.Seal.{isSealed}
 use Rattle.validity.specs.declared.proof.Kind.{Kind}
 use Rattle.validity.specs.declared.proof.Proof.{Proof}
 use Rattle.validity.specs.Proof.{Fields, fieldsLen, shapeOf, knownForm, shapeAt, miscounted, overcounted, laidOut, confirmationOffset, certificateOffset, logOffset}

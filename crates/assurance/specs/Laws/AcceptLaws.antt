@@ -29,11 +29,11 @@ use Rattle.validity.specs.Laws.RoundTrip.{Taken, Takes, decode-encode, encode-r
 use Rattle.validity.specs.declared.proof.Kind.{Kind}
 use Rattle.validity.specs.declared.proof.Parsed.{Parsed}
 use Rattle.validity.specs.declared.proof.Proof.{Proof}
-use Rattle.log_image.specs.Laws.ImageParts.{entries-units}
-use Rattle.log_image.specs.Sound.{consecutive, allProper}
 use Rattle.desk_table.specs.declared.answer.Answer.{Answer}
 use Rattle.desk_table.specs.Desk.{confirmation, certificate, entry, verdictsBefore, verdictsFor, allYes, isOwn, badWanted, closesElsewhere, wrongClosing, closing, verified}
 use Rattle.desk.specs.Laws.LogVerdictsLaws.{verdicts-counted}
+use Rattle.log_image.specs.Laws.ImageParts.{entries-units}
+use Rattle.log_image.specs.Sound.{consecutive, allProper}
 use Rattle.assurance.specs.Laws.AcceptRows.{ones, entry-behind, ones-own, yesTo, Clean, clean-verified}
 
 -- what a proof set out for a counter says: the counter's confirmation (v, g), and the entries after g, one for each reading, that chain

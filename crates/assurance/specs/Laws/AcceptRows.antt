@@ -26,13 +26,13 @@ use Rattle.validity.specs.Proof.{parsed, logOffset}
 use Rattle.validity.specs.declared.proof.Kind.{Kind}
 use Rattle.validity.specs.declared.proof.Parsed.{Parsed}
 use Rattle.validity.specs.declared.proof.Proof.{Proof}
-use Rattle.log_image.specs.Sound.{consecutive, proper, allProper}
 use Rattle.desk_table.specs.declared.answer.Answer.{Answer}
 use Rattle.desk_table.specs.Desk.{confirmation, entry, verdictsBefore, verdictsTo, verdictCount, zeroOrOne, isOwn, runningTo, badWanted, badVerdicts, badConfirmation, certificateDenied, moduleDenied, forged, repeated, closesElsewhere, wrongReading, wrongClosing, breaksChain, closing, laterChecks, accepted, judged, verified}
 use Rattle.desk_table.specs.Laws.DeskLaws.{answerOf, verified-parsed}
 use Rattle.desk_table.specs.Lowest.{lowest}
 use Rattle.desk_table.specs.Laws.LowestLaws.{Clear, lowest-none}
 use Rattle.desk.specs.Laws.LogVerdictsLaws.{verdicts-grow}
+use Rattle.log_image.specs.Sound.{consecutive, proper, allProper}
 
 -- a verdict list that is all yes
 abbrev pub ones : ℕ → List ℕ

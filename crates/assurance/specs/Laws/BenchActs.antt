@@ -21,20 +21,19 @@ use Rattle.forms.specs.declared.request.Request.{Request}
 use Rattle.forms.specs.declared.terms.CounterId.{CounterId}
 use Rattle.validity.specs.Proof.{Fields, fieldsLen}
 use Rattle.validity.specs.declared.proof.Kind.{Kind}
+use Rattle.desk_table.specs.Desk.{allYes, verified}
+use Rattle.desk_table.specs.declared.answer.Answer.{Answer}
 use Rattle.log_image.specs.Laws.FitLaws.{entries-fit-drop, units-drop}
 use Rattle.log_image.specs.Laws.ImageRoundTrip.{decode-encode}
 use Rattle.log_image.specs.Laws.LookupLaws.{zero-unheld}
-use Rattle.log_image.specs.Sound.{after, base, holds, oldest}
+use Rattle.log_image.specs.Sound.{after, base, holds, oldest, recordOf}
 use Rattle.log_image.specs.State.{Record, State, decode, encode}
-use Rattle.desk_table.specs.Desk.{allYes, verified}
-use Rattle.desk_table.specs.declared.answer.Answer.{Answer}
 use Rattle.log_store.specs.Laws.EachRecordLaws.{Keeps, confirmation-keeps, held-keeps, holds-updated, raise-keeps}
-use Rattle.host.specs.Laws.HeldLaws.{current-stored}
-use Rattle.host.specs.Host.{Settled, confirmCall, confirmedState, counted, currentOf, entriesOf, heldOf, proofOf, proveCall, proveRefusal, replaced, requestRefusal, runningOf, settled}
 use Rattle.log_store.specs.Effect.{confirmedBy, incremented, proved, raisedBy, raisedTo, updated}
-use Rattle.log_image.specs.Sound.{recordOf}
 use Rattle.log_store.specs.Laws.RecordOfLaws.{record-updated}
 use Rattle.log_store.specs.Laws.RecordStores.{record-of-fits}
+use Rattle.host.specs.Laws.HeldLaws.{current-stored}
+use Rattle.host.specs.Host.{Settled, confirmCall, confirmedState, counted, currentOf, entriesOf, heldOf, proofOf, proveCall, proveRefusal, replaced, requestRefusal, runningOf, settled}
 use Rattle.host.specs.Laws.SettledLaws.{settled-done, settled-refused}
 use Rattle.host.specs.Laws.SoundParts.{sound-parts}
 use Rattle.console.specs.Step.{emptyOutput, yes, yesFor}

@@ -19,13 +19,12 @@ use Rattle.forms.specs.declared.confirmation.Confirmation.{Confirmation}
 use Rattle.forms.specs.declared.terms.CounterId.{CounterId}
 use Rattle.forms.specs.declared.terms.GlobalClock.{GlobalClock}
 use Rattle.log_image.specs.Laws.ImageRoundTrip.{decode-encode}
-use Rattle.log_image.specs.Sound.{after, base, holds}
+use Rattle.log_image.specs.Sound.{after, base, holds, recordOf}
 use Rattle.log_image.specs.State.{Record, State, decode, encode}
 use Rattle.log_store.specs.Laws.EachRecordLaws.{holds-snoc}
-use Rattle.host.specs.Host.{Settled, currentOf, openCall, openRefusal}
 use Rattle.log_store.specs.Effect.{opened}
-use Rattle.log_image.specs.Sound.{recordOf}
 use Rattle.log_store.specs.Laws.RecordOfLaws.{record-before, record-behind}
+use Rattle.host.specs.Host.{Settled, currentOf, openCall, openRefusal}
 use Rattle.host.specs.Laws.SettledLaws.{settled-done, settled-refused}
 use Rattle.console.specs.Step.{yes}
 use Rattle.tablets.specs.Act.{Acted, acted}

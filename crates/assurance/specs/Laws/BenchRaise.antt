@@ -21,8 +21,8 @@ use Rattle.log_image.specs.Laws.ImageParts.{bytes-append, bytes-replicate}
 use Rattle.log_image.specs.Laws.LookupLaws.{zero-unheld}
 use Rattle.log_image.specs.Sound.{holds, soundState, sound}
 use Rattle.log_image.specs.State.{State, decode, encode}
-use Rattle.host.specs.Host.{Batch, Settled, answered, asked, askedFrom, badBatch, currentOf, incrementCall, judgeNext, judgedBatch, numbersOf, requestRefusal, settled}
 use Rattle.log_store.specs.Effect.{incremented}
+use Rattle.host.specs.Host.{Batch, Settled, answered, asked, askedFrom, badBatch, currentOf, incrementCall, judgeNext, judgedBatch, numbersOf, requestRefusal, settled}
 use Rattle.host.specs.Laws.SettledLaws.{answered-done, settled-done, settled-refused}
 use Rattle.host.specs.Laws.SoundParts.{sound-parts}
 use Rattle.host.specs.declared.answer.Figures.{Figures}

@@ -10,12 +10,12 @@ use lib.ListN.{take, drop}
 use Rattle.forms.specs.Bytes.{Bytes}
 use Rattle.forms.specs.declared.terms.GlobalClock.{GlobalClock}
 use Rattle.validity.specs.declared.proof.Kind.{Kind}
+use Rattle.desk_table.specs.Desk.{certificate}
 use Rattle.history.specs.History.{HistoryEvent, increment, read, list, clockAfter, Stands}
 use Rattle.history.specs.Laws.HistoryLaws.{made-stands, stands-within}
 use Rattle.history.specs.Nonce.{Has, New}
 use Rattle.history.specs.Laws.NonceLaws.{named-has, new-before, new-stands-later, stands-not-new}
 use Rattle.history.specs.Value.{Signatures}
-use Rattle.desk_table.specs.Desk.{certificate}
 use Rattle.assurance.specs.Laws.Accepted.{Passed, countOf, accepted-passed}
 use Rattle.assurance.specs.DeskList.{Call, Item, history, Accepted, closes, kindOf, entryOf, Truth, Fresh, Clash}
 use Rattle.assurance.specs.Laws.EntryCounts.{Carried, entry-reached, entry-carried}

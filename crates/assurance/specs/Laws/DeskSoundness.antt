@@ -14,12 +14,12 @@ use Rattle.forms.specs.declared.terms.GlobalClock.{GlobalClock}
 use Rattle.forms.specs.Chain.{fromValue}
 use Rattle.forms.specs.declared.running.Running.{Running}
 use Rattle.validity.specs.Proof.{logOffset}
+use Rattle.desk_table.specs.Desk.{confirmation, verdictsBefore}
 use Rattle.history.specs.Openings.{numberOf, openingsBetween}
 use Rattle.history.specs.Laws.OpeningsLaws.{running-walk}
 use Rattle.history.specs.Value.{Signatures, counts, valueAt}
 use Rattle.history.specs.Laws.ValueLaws.{valueAt-walks-on}
 use Rattle.history.specs.Laws.Walk.{pass, walk}
-use Rattle.desk_table.specs.Desk.{confirmation, verdictsBefore}
 use Rattle.assurance.specs.Laws.Accepted.{Passed, countOf, runningOf, accepted-passed}
 use Rattle.assurance.specs.DeskList.{Call, Item, confirmed, call, At, history, shown, Accepted, closes, kindOf, Truth, Unopened, Opening, MadeFrom, Supposed, Sound, Clashed, Lent}
 use Rattle.assurance.specs.Laws.EntryCounts.{Linked, entries-linked, entry-counts}

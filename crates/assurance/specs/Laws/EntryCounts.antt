@@ -19,11 +19,11 @@ use Rattle.forms.specs.declared.request.Request.{Request}
 use Rattle.forms.specs.declared.terms.GlobalClock.{GlobalClock}
 use Rattle.digest.specs.Seal.{digestOf}
 use Rattle.digest.specs.Laws.SealLaws.{sealed-nonce}
+use Rattle.desk_table.specs.Desk.{isNo, ownBy, isOwn}
 use Rattle.history.specs.History.{Given, HistoryEvent, list, bare, clockAfter, Made, made, unmade, incrementAt, Carries}
 use Rattle.history.specs.Laws.HistoryLaws.{made-within}
 use Rattle.history.specs.Value.{Signatures, counts}
 use Rattle.history.specs.Laws.ValueLaws.{signed-once, made-counts, counts-stays}
-use Rattle.desk_table.specs.Desk.{isNo, ownBy, isOwn}
 use Rattle.assurance.specs.Laws.Accepted.{Passed, countOf, ownOf}
 use Rattle.assurance.specs.DeskList.{Call, Item, history, entryOf, requestOf, ownerSaid, Shows, Truth, Clash}
 use Rattle.assurance.specs.Laws.ListLaws.{history-grows}

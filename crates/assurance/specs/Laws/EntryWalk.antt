@@ -10,9 +10,9 @@ use Rattle.forms.specs.declared.running.Running.{Running}
 use Rattle.forms.specs.Terms.{globalClock}
 use Rattle.forms.specs.declared.terms.CounterId.{CounterId}
 use Rattle.forms.specs.declared.terms.GlobalClock.{GlobalClock}
+use Rattle.desk_table.specs.Desk.{entry, isOwn, runningTo}
 use Rattle.history.specs.Laws.Walk.{passRunning, walk}
 use Rattle.history.specs.Laws.WalkLaws.{walk-last}
-use Rattle.desk_table.specs.Desk.{entry, isOwn, runningTo}
 
 module _ (counting : GlobalClock → Bool) (s : List ℕ) (log : ℕ) (verdicts : List ℕ) (before : ℕ) (id : CounterId) (value start : ℕ) where
   -- entry k has the reading k after the start, which counts exactly if the entry is the counter's own

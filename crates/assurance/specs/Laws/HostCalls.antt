@@ -12,11 +12,11 @@ use Rattle.forms.specs.declared.running.Running.{Running}
 use Rattle.forms.specs.declared.terms.CounterId.{CounterId}
 use Rattle.forms.specs.declared.terms.GlobalClock.{GlobalClock}
 use Rattle.validity.specs.Proof.{encode, fieldsLen}
+use Rattle.desk_table.specs.declared.answer.Answer.{Answer}
+use Rattle.desk_table.specs.Desk.{allYes, verified}
 use Rattle.log_image.specs.Laws.ImageRoundTrip.{StateFits, decode-fits}
 use Rattle.log_image.specs.State.{State, decode}
 use Rattle.log_image.specs.Sound.{holds, laidOut, soundState, sound}
-use Rattle.desk_table.specs.declared.answer.Answer.{Answer}
-use Rattle.desk_table.specs.Desk.{allYes, verified}
 use Rattle.host.specs.Host.{requestNonce, runningOf, answered, proofOf, lastOf, proveRefusal, lastRefusal, readRefusal, counted, readCall, proveCall, lastCall}
 use Rattle.host.specs.Laws.DoneLaws.{settled-passed}
 use Rattle.host.specs.Laws.RefusalLaws.{prove-passed, last-passed}

@@ -12,10 +12,10 @@ use Rattle.forms.specs.declared.running.Running.{Running}
 use Rattle.forms.specs.declared.terms.CounterId.{CounterId}
 use Rattle.forms.specs.declared.terms.GlobalClock.{GlobalClock}
 use Rattle.validity.specs.Proof.{Fields, fieldsLen, encode}
-use Rattle.log_image.specs.State.{State, decode}
 use Rattle.desk_table.specs.Answer.{figures}
 use Rattle.desk_table.specs.Desk.{allYes, verified}
 use Rattle.desk_table.specs.declared.answer.Answer.{Answer}
+use Rattle.log_image.specs.State.{State, decode}
 use Rattle.host.specs.Host.{requestNonce, heldOf, entriesOf, lastEntries, proofOf, lastOf, proveRefusal, lastRefusal, counted, startCall, proveCall, lastCall, outputFor}
 use Rattle.host.specs.Laws.DoneLaws.{settled-passed, value-given}
 use Rattle.host.specs.Laws.RefusalLaws.{prove-passed}

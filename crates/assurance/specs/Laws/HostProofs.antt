@@ -24,13 +24,13 @@ use Rattle.forms.specs.declared.request.Request.{Request}
 use Rattle.forms.specs.declared.terms.CounterId.{CounterId}
 use Rattle.forms.specs.declared.terms.GlobalClock.{GlobalClock}
 use Rattle.validity.specs.Proof.{encode}
+use Rattle.desk_table.specs.declared.answer.Answer.{Answer}
+use Rattle.desk_table.specs.Desk.{allYes, verified}
 use Rattle.log_image.specs.Laws.FitLaws.{entries-fit-drop, entries-fit-take, counted-drop, units-drop}
 use Rattle.log_image.specs.Laws.ImageRoundTrip.{StateFits}
 use Rattle.log_image.specs.State.{State}
 use Rattle.log_image.specs.Sound.{holds, consecutive, base, proper, allProper, after, ending, soundState}
 use Rattle.log_image.specs.Laws.LookupLaws.{zero-unheld}
-use Rattle.desk_table.specs.declared.answer.Answer.{Answer}
-use Rattle.desk_table.specs.Desk.{allYes, verified}
 use Rattle.host.specs.Laws.HeldLaws.{Held, held-within, held-chains, entries-consecutive}
 use Rattle.host.specs.Host.{heldOf, entriesOf, runningOf, hasEntry, requestNonce, proofOf, lastEntries, lastOf}
 use Rattle.host.specs.Laws.LogEndsLaws.{proper-drop}

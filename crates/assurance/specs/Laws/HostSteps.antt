@@ -26,15 +26,15 @@ use Rattle.log_image.specs.Laws.FitLaws.{start-fits, store-clock-fits, append-r
 use Rattle.log_image.specs.Laws.ImageRoundTrip.{StateFits, length-encode, encode-bytes, encode-sound, decode-encode, decode-fits, sound-decode, sound-laid-out}
 use Rattle.log_image.specs.Sound.{base, soundState, sound}
 use Rattle.log_image.specs.State.{State, decode, encode}
-use Rattle.host.specs.Laws.CloseLaws.{closed-sound}
 use Rattle.log_store.specs.Laws.RemoveStores.{without-fits}
-use Rattle.host.specs.Laws.ConfirmLaws.{confirmed-sound}
 use Rattle.log_store.specs.Laws.RecordStores.{replacedState, replaced-fits}
+use Rattle.log_store.specs.Effect.{started, opened, raised, incremented, advanced, withRecords, without}
+use Rattle.log_store.specs.Laws.RaiseStores.{raised-fits}
+use Rattle.host.specs.Laws.CloseLaws.{closed-sound}
+use Rattle.host.specs.Laws.ConfirmLaws.{confirmed-sound}
 use Rattle.host.specs.Laws.CountLaws.{counted-sound, counted-fits}
 use Rattle.host.specs.Laws.FittingLaws.{clock-runs, entry-room, record-room}
 use Rattle.host.specs.Host.{Settled, openRefusal, tickRefusal, badBatch, batchRefusal, asked, judgedBatch, confirmRefusal, closeRefusal, openRows, tickRows, readRows, proveRows, lastRows, confirmRows, closeRows, noneHeld, ticked, counted, confirmedState, closedState, answered, settled, startCall, incrementCall, readRefusal, currentOf, proofOf, lastOf, proveRefusal, lastRefusal, readCall}
-use Rattle.log_store.specs.Effect.{started, opened, raised, incremented, advanced, withRecords, without}
-use Rattle.log_store.specs.Laws.RaiseStores.{raised-fits}
 use Rattle.host.specs.Laws.BatchLaws.{batch-fits}
 use Rattle.host.specs.Laws.OpenLaws.{opened-sound}
 use Rattle.host.specs.Laws.RaiseLaws.{started-sound, incremented-sound, ticked-sound}

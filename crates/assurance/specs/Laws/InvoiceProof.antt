@@ -18,14 +18,13 @@ use Rattle.forms.specs.declared.request.Request.{Request}
 use Rattle.forms.specs.declared.terms.CounterId.{CounterId}
 use Rattle.forms.specs.declared.terms.GlobalClock.{GlobalClock}
 use Rattle.log_image.specs.Laws.ImageRoundTrip.{decode-encode, sound-decode}
-use Rattle.log_image.specs.Sound.{holds, distinct}
+use Rattle.log_image.specs.Sound.{holds, distinct, recordOf}
 use Rattle.log_image.specs.State.{Record, State, decode}
-use Rattle.host.specs.Laws.DoneLaws.{settled-passed, value-given}
 use Rattle.log_store.specs.Laws.EachRecordLaws.{Keeps, held-keeps, raise-keeps, confirmation-keeps, holds-updated, holds-snoc}
-use Rattle.host.specs.Host.{Settled, ticked, noneHeld, counted, closedState, answered, settled, startCall, incrementCall, readCall, openRefusal, tickRefusal, batchRefusal, asked, judgedBatch, proveRefusal, lastRefusal, confirmRefusal, closeRefusal}
-use Rattle.log_image.specs.Sound.{recordOf}
 use Rattle.log_store.specs.Effect.{updated, proved, raisedTo, raisedBy, confirmedBy, opened, raised, incremented, advanced}
 use Rattle.log_store.specs.Laws.RecordOfLaws.{record-updated, record-before, record-behind, holds-taken, holds-left, record-left}
+use Rattle.host.specs.Laws.DoneLaws.{settled-passed, value-given}
+use Rattle.host.specs.Host.{Settled, ticked, noneHeld, counted, closedState, answered, settled, startCall, incrementCall, readCall, openRefusal, tickRefusal, batchRefusal, asked, judgedBatch, proveRefusal, lastRefusal, confirmRefusal, closeRefusal}
 use Rattle.host.specs.Laws.RefusalLaws.{open-passed, close-passed}
 use Rattle.host.specs.Laws.SettledLaws.{settled-refused, settled-done}
 use Rattle.host.specs.Laws.SoundParts.{sound-parts}

@@ -18,11 +18,10 @@ use Rattle.validity.specs.Proof.{fieldsLen, logOffset}
 use Rattle.validity.specs.declared.proof.Kind.{Kind}
 use Rattle.log_image.specs.Laws.FitLaws.{start-fits, entries-fit-drop, entries-fit-take}
 use Rattle.log_image.specs.Laws.ImageRoundTrip.{decode-encode, decode-fits, sound-laid-out}
-use Rattle.log_image.specs.Sound.{base, after}
+use Rattle.log_image.specs.Sound.{base, after, recordOf}
 use Rattle.log_image.specs.State.{State, decode}
-use Rattle.host.specs.Host.{Settled, heldOf, entriesOf, openRefusal, tickRefusal, batchRefusal, asked, judgedBatch, proveRefusal, lastRefusal, confirmRefusal, closeRefusal, readRefusal, runningOf, ticked, counted, confirmedState, closedState, proofOf, lastEntries, lastOf, proveOutput, answered, settled, startCall}
-use Rattle.log_image.specs.Sound.{recordOf}
 use Rattle.log_store.specs.Effect.{started, opened, incremented}
+use Rattle.host.specs.Host.{Settled, heldOf, entriesOf, openRefusal, tickRefusal, batchRefusal, asked, judgedBatch, proveRefusal, lastRefusal, confirmRefusal, closeRefusal, readRefusal, runningOf, ticked, counted, confirmedState, closedState, proofOf, lastEntries, lastOf, proveOutput, answered, settled, startCall}
 use Rattle.host.specs.Laws.RaiseLaws.{started-sound}
 use Rattle.host.specs.Laws.SettledLaws.{answered-done, settled-done}
 use Rattle.host.specs.declared.answer.Figures.{Figures}

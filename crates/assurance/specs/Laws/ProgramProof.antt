@@ -13,11 +13,11 @@ use Rattle.forms.specs.declared.running.Running.{Running}
 use Rattle.forms.specs.declared.terms.CounterId.{CounterId}
 use Rattle.forms.specs.declared.terms.GlobalClock.{GlobalClock}
 use Rattle.validity.specs.Proof.{Fields}
-use Rattle.log_image.specs.Sound.{sound}
-use Rattle.log_image.specs.State.{State, decode}
 use Rattle.desk_table.specs.Answer.{figures}
 use Rattle.desk_table.specs.Desk.{allYes, verified}
 use Rattle.desk_table.specs.declared.answer.Figures.{Figures as DeskFigures}
+use Rattle.log_image.specs.Sound.{sound}
+use Rattle.log_image.specs.State.{State, decode}
 use Rattle.host.specs.Host.{requestRows, badBatch, Asked, asked, Batch, noneJudged, judgeNext, judgedBatch, numbersOf, startCall, incrementCall, incrementFigures, proveCall, lastCall, proofOf, lastOf, proveOutput, lastOutput, requestNonce}
 use Rattle.host.specs.declared.answer.Figures.{Figures}
 use Rattle.grammar.specs.declared.command.Command.{Command}

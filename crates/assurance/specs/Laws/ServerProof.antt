@@ -17,18 +17,17 @@ use Rattle.forms.specs.declared.confirmation.Confirmation.{Confirmation}
 use Rattle.forms.specs.declared.request.Request.{Request}
 use Rattle.forms.specs.declared.terms.CounterId.{CounterId}
 use Rattle.forms.specs.declared.terms.GlobalClock.{GlobalClock}
+use Rattle.digest.specs.Laws.SealLaws.{sealed-nonce}
 use Rattle.validity.specs.Proof.{shapeAt, logOffset}
 use Rattle.validity.specs.declared.proof.Kind.{Kind}
 use Rattle.validity.specs.declared.proof.Proof.{Proof}
-use Rattle.digest.specs.Laws.SealLaws.{sealed-nonce}
+use Rattle.desk_table.specs.Desk.{confirmation, certificate, verdictsBefore, verdictCount, ownBy, isOwn}
 use Rattle.history.specs.History.{HistoryEvent, clockAfter, Made, ReadStands}
-use Rattle.history.specs.Laws.HistoryLaws.{clock-none, stands-stays}
-use Rattle.history.specs.Laws.HistoryLaws.{stands-within as event-within}
+use Rattle.history.specs.Laws.HistoryLaws.{clock-none, stands-stays, stands-within as event-within}
 use Rattle.history.specs.Value.{Signatures, valueAt}
 use Rattle.history.specs.Laws.ValueLaws.{valueAt-stays}
 use Rattle.log_image.specs.Sound.{base, after}
 use Rattle.log_image.specs.State.{State, decode}
-use Rattle.desk_table.specs.Desk.{confirmation, certificate, verdictsBefore, verdictCount, ownBy, isOwn}
 use Rattle.log_store.specs.Laws.EachRecordLaws.{Each, each-drop, each-take, each-held}
 use Rattle.host.specs.Host.{heldOf, entriesOf, lastEntries, startCall}
 use Rattle.assurance.specs.Laws.AcceptRows.{ones, ones-own}

@@ -16,8 +16,8 @@ use Rattle.forms.specs.declared.request.Request.{Request}
 use Rattle.forms.specs.declared.terms.GlobalClock.{GlobalClock}
 use Rattle.validity.specs.Proof.{logOffset, shapeAt}
 use Rattle.validity.specs.declared.proof.Kind.{Kind}
-use Rattle.history.specs.Value.{Signatures}
 use Rattle.desk_table.specs.Desk.{verdictsBefore, verdictsTo, verdictCount}
+use Rattle.history.specs.Value.{Signatures}
 use Rattle.assurance.specs.Laws.AcceptRows.{ones, verdicts-within}
 use Rattle.assurance.specs.Laws.Accepted.{Passed, countOf, accepted-passed}
 use Rattle.assurance.specs.DeskList.{Call, Item, Accepted, kindOf, entryOf}

@@ -24,11 +24,11 @@ use Rattle.history.specs.Value.{Signatures}
 use Rattle.log_image.specs.Laws.ImageRoundTrip.{decode-encode}
 use Rattle.log_image.specs.Sound.{base, distinct, oldest}
 use Rattle.log_image.specs.State.{Record, State, decode, encode}
-use Rattle.host.specs.Laws.BatchLaws.{passed-fit}
 use Rattle.log_store.specs.Laws.EachRecordLaws.{Each, each-map, each-snoc, each-drop, each-updated, each-held, each-without, distinct-updated, held-id, held-keeps, raise-keeps}
+use Rattle.log_store.specs.Effect.{updated, raisedTo, confirmedBy, proved, opened, entryOf, raised, raisedBy, incremented, advanced, without}
+use Rattle.host.specs.Laws.BatchLaws.{passed-fit}
 use Rattle.host.specs.Laws.DoneLaws.{settled-passed}
 use Rattle.host.specs.Host.{Settled, heldOf, asked, judgedBatch, openRefusal, tickRefusal, batchRefusal, proveRefusal, lastRefusal, confirmRefusal, closeRefusal, noneHeld, ticked, counted, replaced, confirmedState, closedState, answered, settled, startCall, incrementCall}
-use Rattle.log_store.specs.Effect.{updated, raisedTo, confirmedBy, proved, opened, entryOf, raised, raisedBy, incremented, advanced, without}
 use Rattle.host.specs.Laws.RefusalLaws.{open-passed, confirm-passed}
 use Rattle.host.specs.Laws.SettledLaws.{settled-refused, settled-done, answered-done, answered-refused}
 use Rattle.host.specs.Laws.SoundParts.{sound-parts}

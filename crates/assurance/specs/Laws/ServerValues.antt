@@ -31,8 +31,7 @@ use Rattle.log_image.specs.Laws.ImageRoundTrip.{StateFits}
 use Rattle.log_image.specs.State.{State}
 use Rattle.log_store.specs.Laws.EachRecordLaws.{Each, each-drop, each-take}
 use Rattle.host.specs.Laws.HeldLaws.{held-within, entries-consecutive}
-use Rattle.host.specs.Host.{heldOf, entriesOf}
-use Rattle.host.specs.Host.{valueAt as hostValueAt}
+use Rattle.host.specs.Host.{heldOf, entriesOf, valueAt as hostValueAt}
 use Rattle.host.specs.Laws.LogEndsLaws.{proper-drop}
 use Rattle.host.specs.Laws.SoundParts.{sound-parts}
 use Rattle.assurance.specs.DeskList.{Item, requestOf, Opening}

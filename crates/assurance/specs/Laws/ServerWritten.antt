@@ -17,11 +17,11 @@ use Rattle.validity.specs.Laws.ProofLaws.{parsed-shape}
 use Rattle.validity.specs.Laws.RoundTrip.{Takes, encode-reads}
 use Rattle.validity.specs.declared.proof.Kind.{Kind}
 use Rattle.validity.specs.declared.proof.Parsed.{Parsed}
-use Rattle.log_image.specs.Sound.{holds}
-use Rattle.log_image.specs.State.{State, decode}
 use Rattle.desk_table.specs.Answer.{figures}
 use Rattle.desk_table.specs.declared.answer.Figures.{Figures}
 use Rattle.desk_table.specs.Desk.{verified, confirmation, certificate, allYes, verdictsFor}
+use Rattle.log_image.specs.Sound.{holds}
+use Rattle.log_image.specs.State.{State, decode}
 use Rattle.host.specs.Laws.DoneLaws.{settled-passed}
 use Rattle.host.specs.Host.{requestNonce, heldOf, entriesOf, lastEntries, proofOf, lastOf, proveRefusal, lastRefusal, counted}
 use Rattle.host.specs.Laws.RefusalLaws.{prove-passed, last-passed}

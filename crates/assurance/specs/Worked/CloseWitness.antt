@@ -16,15 +16,14 @@ use Rattle.forms.specs.Terms.{counterId, globalClock}
 use Rattle.forms.specs.declared.request.Request.{Request}
 use Rattle.forms.specs.declared.running.Running.{Running}
 use Rattle.forms.specs.declared.terms.CounterId.{CounterId}
+use Rattle.log_image.specs.Sound.{holds, oldest, after, ending, recordOf}
+use Rattle.log_image.specs.State.{Record, State}
+use Rattle.log_store.specs.Effect.{updated, entryOf, raisedBy, without}
+use Rattle.host.specs.Host.{Settled, openRefusal, askedFrom, judgeNext, judgedBatch, proofOf, openCall, proveOutput}
+use Rattle.host.specs.Laws.SettledLaws.{settled-refused}
 use Rattle.grammar.specs.Command.{argumentsOf, named, byWords}
 use Rattle.grammar.specs.declared.command.Arguments.{Arguments}
 use Rattle.grammar.specs.declared.command.Command.{Command}
-use Rattle.log_image.specs.Sound.{holds, oldest, after, ending}
-use Rattle.log_image.specs.State.{Record, State}
-use Rattle.host.specs.Host.{Settled, openRefusal, askedFrom, judgeNext, judgedBatch, proofOf, openCall, proveOutput}
-use Rattle.log_image.specs.Sound.{recordOf}
-use Rattle.log_store.specs.Effect.{updated, entryOf, raisedBy, without}
-use Rattle.host.specs.Laws.SettledLaws.{settled-refused}
 use Rattle.console.specs.Step.{ran}
 use Rattle.assurance.specs.HostList.{HostCall, settledBy, Taken, Fair, Runs}
 use Rattle.assurance.specs.Worked.HostListWitness.{nonceOf, nonce-bytes, request, joined-bytes, none-bytes, blank, blank-long}

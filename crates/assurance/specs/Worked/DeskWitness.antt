@@ -16,8 +16,7 @@ use Rattle.forms.specs.Certificate.{certificateAt, certificateBytes}
 use Rattle.forms.specs.Checks.{Row, firstOf}
 use Rattle.forms.specs.Confirmation.{confirmationAt, confirmationBytes}
 use Rattle.forms.specs.Entry.{Entry, entryAt, offsetAt, headBytes, entryBytes, logBytes}
-use Rattle.forms.specs.Laws.EntryLaws.{EntryFits, EntriesFit}
-use Rattle.forms.specs.Laws.EntryLaws.{one-more, none as no-more}
+use Rattle.forms.specs.Laws.EntryLaws.{EntryFits, EntriesFit, one-more, none as no-more}
 use Rattle.forms.specs.Limits.{nonceLen}
 use Rattle.forms.specs.Log.{walked}
 use Rattle.forms.specs.Request.{RequestsFit, none, requestAt, requestBytes, requestsAt, joined, names, placeOf, beforeOf, nonceOf, namesTwice}
@@ -33,11 +32,6 @@ use Rattle.validity.specs.Proof.{Fields, headerOf, headerBytes, encode, parsed,
 use Rattle.validity.specs.declared.proof.Kind.{Kind}
 use Rattle.validity.specs.declared.proof.Parsed.{Parsed}
 use Rattle.validity.specs.declared.proof.Proof.{Proof}
-use Rattle.log_image.specs.Laws.ImageParts.{bytes-append, bytes-log}
-use Rattle.history.specs.History.{increment, read, list, carried, increments, clockAfter, Made, made, unmade, incrementAt}
-use Rattle.history.specs.Nonce.{InRequest, New}
-use Rattle.history.specs.Openings.{numberOf, openingsBetween}
-use Rattle.history.specs.Value.{signedAmong, counts, valueAt}
 use Rattle.desk_table.specs.Answer.{figures}
 use Rattle.desk_table.specs.declared.answer.Answer.{Answer}
 use Rattle.desk_table.specs.declared.answer.Figures.{Figures}
@@ -45,6 +39,11 @@ use Rattle.desk_table.specs.Desk.{confirmation, zeroOrOne, isNo, verdictsTo, is
 use Rattle.desk_table.specs.Laws.DeskLaws.{answerOf, verified-parsed}
 use Rattle.desk_table.specs.Lowest.{lowest, lowestFrom}
 use Rattle.desk_table.specs.Laws.LowestLaws.{lowest-none}
+use Rattle.history.specs.History.{increment, read, list, carried, increments, clockAfter, Made, made, unmade, incrementAt}
+use Rattle.history.specs.Nonce.{InRequest, New}
+use Rattle.history.specs.Openings.{numberOf, openingsBetween}
+use Rattle.history.specs.Value.{signedAmong, counts, valueAt}
+use Rattle.log_image.specs.Laws.ImageParts.{bytes-append, bytes-log}
 use Rattle.assurance.specs.Worked.DeskExample.{nonce, seven, nine, start, signed, opening, later, request, to-101, to-102, to-104, to-105, entryFor, read-at, three, two, one, five, by-read, left-out, by-increment, since-opening, unraised, fits-101, fits-102, fits-104, fits-105, items}
 use Rattle.assurance.specs.DeskList.{Call, Item, event, confirmed, call, At, history, shown, Accepted, closes, kindOf, entryOf, requestOf, ownerSaid, Shows, Truth, Unopened, Opening, MadeFrom, Supposed, Sound, Fresh, Clash, Clashed, Lent}
 use Rattle.assurance.specs.Laws.DeskProof.{desk-claim}

@@ -29,11 +29,10 @@ use Rattle.validity.specs.Proof.{fieldsLen}
 use Rattle.log_image.specs.Laws.FitLaws.{start-fits, append-record-fits}
 use Rattle.log_image.specs.Laws.ImageParts.{bytes-append}
 use Rattle.log_image.specs.Laws.ImageRoundTrip.{StateFits, decode-encode, encode-sound}
-use Rattle.log_image.specs.Sound.{holds, oldest, after, ending, soundState}
+use Rattle.log_image.specs.Sound.{holds, oldest, after, ending, soundState, recordOf}
 use Rattle.log_image.specs.State.{State, recordsBytes, headerOf, decode, encode}
-use Rattle.host.specs.Host.{requestNonce, Settled, runningOf, hasEntry, openRefusal, badBatch, batchRefusal, askedFrom, asked as askedBy, Batch, judgeNext, judgedBatch, readRefusal, counted, proofOf, lastEntries, lastOf, settled, answered, startCall, openCall, incrementCall, readCall, proveCall, lastCall, proveOutput, lastOutput, proveRefusal, lastRefusal}
-use Rattle.log_image.specs.Sound.{recordOf}
 use Rattle.log_store.specs.Effect.{started, opened, updated, raisedBy, incremented}
+use Rattle.host.specs.Host.{requestNonce, Settled, runningOf, hasEntry, openRefusal, badBatch, batchRefusal, askedFrom, asked as askedBy, Batch, judgeNext, judgedBatch, readRefusal, counted, proofOf, lastEntries, lastOf, settled, answered, startCall, openCall, incrementCall, readCall, proveCall, lastCall, proveOutput, lastOutput, proveRefusal, lastRefusal}
 use Rattle.host.specs.Laws.CountLaws.{counted-sound, counted-fits}
 use Rattle.host.specs.Laws.DisplayLaws.{display-reads}
 use Rattle.host.specs.Laws.BatchLaws.{batch-fits}

@@ -16,11 +16,10 @@ use Rattle.forms.specs.Terms.{counterId, globalClock}
 use Rattle.forms.specs.declared.request.Request.{Request}
 use Rattle.forms.specs.declared.terms.CounterId.{CounterId}
 use Rattle.validity.specs.Proof.{fieldsLen}
-use Rattle.log_image.specs.Sound.{holds, oldest, after, ending}
+use Rattle.log_image.specs.Sound.{holds, oldest, after, ending, recordOf}
 use Rattle.log_image.specs.State.{Record, State}
-use Rattle.host.specs.Host.{Settled, askedFrom, judgeNext, judgedBatch, proveRefusal, proofOf, closeCall}
-use Rattle.log_image.specs.Sound.{recordOf}
 use Rattle.log_store.specs.Effect.{updated, entryOf, raisedBy, without}
+use Rattle.host.specs.Host.{Settled, askedFrom, judgeNext, judgedBatch, proveRefusal, proofOf, closeCall}
 use Rattle.host.specs.Laws.SettledLaws.{settled-refused}
 use Rattle.host.specs.declared.answer.Figures.{Figures}
 use Rattle.assurance.specs.HostList.{HostCall, settledBy, Widths}

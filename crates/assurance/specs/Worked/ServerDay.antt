@@ -20,11 +20,10 @@ use Rattle.forms.specs.declared.request.Request.{Request}
 use Rattle.forms.specs.declared.terms.CounterId.{CounterId}
 use Rattle.history.specs.History.{HistoryEvent, list, increment, read, increments, clockAfter, ReadStands}
 use Rattle.history.specs.Value.{Signatures}
-use Rattle.log_image.specs.Sound.{holds, oldest, after, ending}
+use Rattle.log_image.specs.Sound.{holds, oldest, after, ending, recordOf}
 use Rattle.log_image.specs.State.{Record, State, decode}
-use Rattle.host.specs.Host.{Settled, hasEntry, asked, askedFrom, Batch, judgeNext, judgedBatch}
-use Rattle.log_image.specs.Sound.{recordOf}
 use Rattle.log_store.specs.Effect.{updated, started, entryOf, raisedBy, without}
+use Rattle.host.specs.Host.{Settled, hasEntry, asked, askedFrom, Batch, judgeNext, judgedBatch}
 use Rattle.host.specs.declared.answer.Figures.{Figures}
 use Rattle.assurance.specs.DeskList.{Call, event, confirmed, call, history}
 use Rattle.assurance.specs.HostList.{HostCall, settledBy, Widths}

@@ -17,11 +17,10 @@ use Rattle.forms.specs.declared.terms.GlobalClock.{GlobalClock}
 use Rattle.validity.specs.declared.proof.Kind.{Kind}
 use Rattle.history.specs.History.{list, increment, read, carried, increments, clockAfter, Made, made, unmade, incrementAt, ReadStands}
 use Rattle.history.specs.Value.{Signatures}
-use Rattle.log_image.specs.Sound.{holds, oldest, after, ending}
+use Rattle.log_image.specs.Sound.{holds, oldest, after, ending, recordOf}
 use Rattle.log_image.specs.State.{State, decode}
-use Rattle.log_image.specs.Sound.{recordOf}
-use Rattle.host.specs.Host.{heldOf, hasEntry, asked, askedFrom, judgeNext, judgedBatch, counted, lastEntries, startCall, incrementCall}
 use Rattle.log_store.specs.Effect.{updated, raisedBy}
+use Rattle.host.specs.Host.{heldOf, hasEntry, asked, askedFrom, judgeNext, judgedBatch, counted, lastEntries, startCall, incrementCall}
 use Rattle.host.specs.declared.answer.Figures.{Figures}
 use Rattle.assurance.specs.Worked.CloseWitness.{seven, recordWith, state, single, single-bytes, raising, raiseAt, room, raised, holding-image, raised-image, holding-here, raised-here}
 use Rattle.assurance.specs.DeskList.{Call, event, confirmed, At, history}

@@ -17,12 +17,11 @@ use Rattle.forms.specs.declared.terms.GlobalClock.{GlobalClock}
 use Rattle.validity.specs.declared.proof.Kind.{Kind}
 use Rattle.history.specs.History.{Given, list, increment, carried, Made, made, unmade}
 use Rattle.history.specs.Value.{Signatures}
-use Rattle.log_image.specs.Sound.{holds, oldest, after, ending}
+use Rattle.log_image.specs.Sound.{holds, oldest, after, ending, recordOf}
 use Rattle.log_image.specs.State.{State, decode}
 use Rattle.log_store.specs.Laws.EachRecordLaws.{Each}
-use Rattle.log_image.specs.Sound.{recordOf}
-use Rattle.host.specs.Host.{heldOf, hasEntry, asked, askedFrom, judgeNext, judgedBatch, counted, lastEntries, incrementCall}
 use Rattle.log_store.specs.Effect.{updated}
+use Rattle.host.specs.Host.{heldOf, hasEntry, asked, askedFrom, judgeNext, judgedBatch, counted, lastEntries, incrementCall}
 use Rattle.host.specs.declared.answer.Figures.{Figures}
 use Rattle.assurance.specs.Worked.CloseWitness.{seven, single, raising, raiseAt, room, holding, raised, holding-image, raised-image, holding-here, raised-here, raise-seven}
 use Rattle.assurance.specs.DeskList.{Call, Item, event, confirmed, history}

@@ -29,19 +29,18 @@ use Rattle.digest.specs.Seal.{digestOf, isSealed}
 use Rattle.validity.specs.Proof.{Fields, encode}
 use Rattle.validity.specs.Laws.RoundTrip.{Takes, encode-reads}
 use Rattle.validity.specs.declared.proof.Kind.{Kind}
-use Rattle.history.specs.History.{HistoryEvent, list, increment, read, increments, clockAfter, incrementAt, ReadStands}
-use Rattle.history.specs.Value.{signedAmong, counts, largest, valueAt}
-use Rattle.log_image.specs.Laws.ImageParts.{bytes-append}
-use Rattle.log_image.specs.Sound.{holds, oldest, after, ending, consecutive, allProper}
-use Rattle.log_image.specs.State.{State, decode}
 use Rattle.desk_table.specs.Answer.{figures}
 use Rattle.desk_table.specs.Desk.{certificate, allYes}
 use Rattle.desk_table.specs.declared.answer.Figures.{Figures as DeskFigures}
+use Rattle.history.specs.History.{HistoryEvent, list, increment, read, increments, clockAfter, incrementAt, ReadStands}
+use Rattle.history.specs.Value.{signedAmong, counts, largest, valueAt}
+use Rattle.log_image.specs.Laws.ImageParts.{bytes-append}
+use Rattle.log_image.specs.Sound.{holds, oldest, after, ending, consecutive, allProper, recordOf}
+use Rattle.log_image.specs.State.{State, decode}
 use Rattle.log_store.specs.Laws.EachRecordLaws.{Each}
 use Rattle.log_store.specs.Laws.RaiseStores.{entry-of-fits}
-use Rattle.host.specs.Host.{Asked, asked, askedFrom, batchRefusal, judgeNext, judgedBatch, counted, incrementCall}
-use Rattle.log_image.specs.Sound.{recordOf}
 use Rattle.log_store.specs.Effect.{updated, raisedBy}
+use Rattle.host.specs.Host.{Asked, asked, askedFrom, batchRefusal, judgeNext, judgedBatch, counted, incrementCall}
 use Rattle.host.specs.declared.answer.Figures.{Figures}
 use Rattle.assurance.specs.Laws.AcceptLaws.{SetOut, Wanted, taken, read-back, read-accepted}
 use Rattle.assurance.specs.Worked.CloseWitness.{seven, nine, recordWith, state, raiseAt, room, holding-image, holding-here}

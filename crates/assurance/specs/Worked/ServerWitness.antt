@@ -16,12 +16,11 @@ use Rattle.forms.specs.Terms.{globalClock}
 use Rattle.forms.specs.declared.confirmation.Confirmation.{Confirmation}
 use Rattle.forms.specs.declared.running.Running.{Running}
 use Rattle.forms.specs.declared.terms.CounterId.{CounterId}
-use Rattle.log_image.specs.Sound.{holds, oldest, after, ending}
-use Rattle.log_image.specs.State.{State}
 use Rattle.desk_table.specs.Answer.{figures}
 use Rattle.desk_table.specs.Desk.{allYes, verified}
 use Rattle.desk_table.specs.declared.answer.Figures.{Figures as DeskFigures}
-use Rattle.log_image.specs.Sound.{recordOf}
+use Rattle.log_image.specs.Sound.{holds, oldest, after, ending, recordOf}
+use Rattle.log_image.specs.State.{State}
 use Rattle.host.specs.Host.{runningOf, readRefusal, proofOf, startCall, proveOutput}
 use Rattle.host.specs.declared.answer.Figures.{Figures}
 use Rattle.assurance.specs.DeskList.{confirmed, At, history, shown, Opening, Sound}

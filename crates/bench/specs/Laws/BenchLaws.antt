@@ -13,13 +13,13 @@ use Rattle.forms.specs.declared.confirmation.Confirmation.{Confirmation}
 use Rattle.forms.specs.declared.terms.CounterId.{CounterId}
 use Rattle.forms.specs.declared.terms.GlobalClock.{GlobalClock}
 use Rattle.host.specs.Host.{openCall}
-use Rattle.text.specs.Laws.LineLaws.{nothing-put}
 use Rattle.console.specs.Lines.{Answered}
 use Rattle.console.specs.Step.{yes}
 use Rattle.tablets.specs.Rounds.{Depot, depotOf, tabletsOf}
 use Rattle.tablets.specs.Tablet.{blank, maxTablets}
 use Rattle.tablets.specs.declared.rounds.Fleet.{Fleet}
 use Rattle.tablets.specs.declared.tablet.Tablet.{Tablet}
+use Rattle.text.specs.Laws.LineLaws.{nothing-put}
 use Rattle.bench.specs.Bench.{Bench, Stage, Standing, noOrder, passedOver, placed, refusedTablet, silent, standingOf, tabletOrdered}
 use Rattle.bench.specs.Result.{resultText}
 use Rattle.bench.specs.declared.bench.Ordered.{Ordered}

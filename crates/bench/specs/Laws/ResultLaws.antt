@@ -9,10 +9,10 @@ use lib.ListN.{length, getD, take, length-append}
 use lib.Seq.{length-take-le, take-all, take-suc}
 use Rattle.forms.specs.Bytes.{overwrite}
 use Rattle.forms.specs.Laws.BytesLaws.{length-overwrite, stored-next}
-use Rattle.text.specs.Line.{numeral, spaced}
-use Rattle.text.specs.Laws.LineLaws.{length-numeral, nothing-put}
 use Rattle.tablets.specs.Tablet.{maxTablets}
 use Rattle.tablets.specs.declared.tablet.Tablet.{Tablet}
+use Rattle.text.specs.Line.{numeral, spaced}
+use Rattle.text.specs.Laws.LineLaws.{length-numeral, nothing-put}
 use Rattle.bench.specs.Result.{maxResult, maxTabletLine, resultText, tabletLine}
 
 -- ---- a tablet's line

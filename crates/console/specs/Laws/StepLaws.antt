@@ -19,13 +19,13 @@ use Rattle.forms.specs.declared.terms.CounterId.{CounterId}
 use Rattle.forms.specs.declared.terms.GlobalClock.{GlobalClock}
 use Rattle.validity.specs.Proof.{Fields, fieldsLen, shapeOf}
 use Rattle.validity.specs.declared.proof.Kind.{Kind}
+use Rattle.desk_table.specs.Desk.{allYes, verdictsFor, verified}
+use Rattle.desk_table.specs.Laws.VerdictsLaws.{verdicts-few}
 use Rattle.log_image.specs.Laws.EndLaws.{first-within}
 use Rattle.log_image.specs.Laws.ImageRoundTrip.{laid-out-parts, sound-laid-out}
 use Rattle.log_image.specs.Laws.LogLaws.{entries-first}
 use Rattle.log_image.specs.Sound.{base, laidOut, after}
 use Rattle.log_image.specs.State.{State, decode, entryCount}
-use Rattle.desk_table.specs.Desk.{allYes, verdictsFor, verified}
-use Rattle.desk_table.specs.Laws.VerdictsLaws.{verdicts-few}
 use Rattle.host.specs.Laws.DoneLaws.{settled-passed, value-given}
 use Rattle.host.specs.Host.{hasEntry, requestNonce, heldOf, proofOf, lastOf, proveRefusal, lastRefusal, counted, incrementFigures, incrementCall, proveCall, lastCall, proveOutput, lastOutput}
 use Rattle.host.specs.Laws.LastLaws.{has-none}

@@ -8,8 +8,6 @@ use mathlib.Core.Bool.{Bool, true, false, not, cond, _&&_}
 use mathlib.Core.List.{List, [], _∷_, _++_, map, head-eq-of-cons-eq, tail-eq-of-cons-eq, List·Memᴰ, List·Memᴰ·head, List·Memᴰ·tail}
 use lib.Dec.{T, eqb, eqb→eq}
 use lib.ListN.{length, replicate, take, drop}
-use Rattle.digest.specs.Seal.{digestOf, isSealed}
-use Rattle.digest.specs.Laws.SealLaws.{digest-length}
 use Rattle.forms.specs.Checks.{firstOf}
 use Rattle.forms.specs.Limits.{nonceLen}
 use Rattle.forms.specs.Terms.{counterId, globalClock}
@@ -19,11 +17,12 @@ use Rattle.forms.specs.Confirmation.{confirmationAt, confirmationBytes}
 use Rattle.forms.specs.Certificate.{certificateAt, certificateBytes}
 use Rattle.forms.specs.Entry.{Entry, entryAt, entriesAt, offsetAt, headBytes, entryBytes, logBytes}
 use Rattle.forms.specs.Log.{walked}
-use Rattle.forms.specs.Request.{requestAt, requestsAt, requestBytes, joined, names, placeOf, beforeOf, namesTwice}
-use Rattle.forms.specs.Request.{nonceOf as nonceIn}
+use Rattle.forms.specs.Request.{requestAt, requestsAt, requestBytes, joined, names, placeOf, beforeOf, namesTwice, nonceOf as nonceIn}
 use Rattle.forms.specs.declared.request.Request.{Request}
 use Rattle.forms.specs.declared.terms.CounterId.{CounterId}
 use Rattle.forms.specs.declared.confirmation.Confirmation.{Confirmation}
+use Rattle.digest.specs.Seal.{digestOf, isSealed}
+use Rattle.digest.specs.Laws.SealLaws.{digest-length}
 use Rattle.validity.specs.Proof.{Fields, read, increment, shapeOf, logOffset, headerOf, headerBytes, encode, parsed}
 use Rattle.validity.specs.declared.proof.Parsed.{Parsed}
 use Rattle.validity.specs.declared.proof.Proof.{Proof}

@@ -6,9 +6,9 @@ use Rattle.forms.specs.declared.terms.CounterId.{CounterId}
 use Rattle.log_image.specs.State.{State}
 use Rattle.log_image.specs.Sound.{soundState}
 use Rattle.log_store.specs.Effect.{without}
+use Rattle.log_store.specs.Laws.EachRecordLaws.{each-without, oldest-without, distinct-without}
 use Rattle.host.specs.Host.{closedState}
 use Rattle.host.specs.Laws.CutLaws.{Recut, cut-parts}
-use Rattle.log_store.specs.Laws.EachRecordLaws.{each-without, oldest-without, distinct-without}
 use Rattle.host.specs.Laws.SoundParts.{SoundState, sound-parts, sound-whole}
 
 records-left : (st : State) (id : CounterId) → SoundState st → Recut st (without (st .records) id)

@@ -6,13 +6,12 @@ use mathlib.Core.Bool.{true}
 use Rattle.forms.specs.Chain.{chains, valueAfter}
 use Rattle.forms.specs.declared.confirmation.Confirmation.{Confirmation}
 use Rattle.log_image.specs.State.{State}
-use Rattle.log_image.specs.Sound.{base, after, soundState}
-use Rattle.log_image.specs.Sound.{recordOf}
+use Rattle.log_image.specs.Sound.{base, after, soundState, recordOf}
 use Rattle.log_store.specs.Effect.{confirmedBy}
+use Rattle.log_store.specs.Laws.EachRecordLaws.{each-updated, oldest-updated, distinct-updated, confirmation-keeps}
 use Rattle.host.specs.Host.{replaced, confirmedState, confirmRefusal}
 use Rattle.host.specs.Laws.HeldLaws.{later-chains, later-end, current-stored}
 use Rattle.host.specs.Laws.CutLaws.{Recut, cut-parts}
-use Rattle.log_store.specs.Laws.EachRecordLaws.{each-updated, oldest-updated, distinct-updated, confirmation-keeps}
 use Rattle.host.specs.Laws.RefusalLaws.{ConfirmPassed, confirm-passed}
 use Rattle.host.specs.Laws.SoundParts.{Chained, SoundState, sound-parts, sound-whole}
 

@@ -9,8 +9,8 @@ use Rattle.log_image.specs.Sound.{base, consecutive, soundState}
 use Rattle.log_image.specs.State.{State}
 use Rattle.log_store.specs.Laws.EachRecordLaws.{Each, each-held, each-updated, distinct-updated, held-keeps, KeepsHeld, oldest-kept}
 use Rattle.log_store.specs.Effect.{proved}
-use Rattle.host.specs.Host.{counted}
 use Rattle.log_store.specs.Laws.RecordStores.{record-of-fits, updated-fits}
+use Rattle.host.specs.Host.{counted}
 use Rattle.host.specs.Laws.SoundParts.{Chained, SoundState, sound-parts, sound-whole}
 
 keeps : KeepsHeld proved

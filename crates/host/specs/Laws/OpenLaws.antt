@@ -23,9 +23,9 @@ use Rattle.forms.specs.declared.terms.CounterId.{CounterId}
 use Rattle.forms.specs.declared.terms.GlobalClock.{GlobalClock}
 use Rattle.log_image.specs.State.{State}
 use Rattle.log_image.specs.Sound.{base, consecutive, after, soundState}
-use Rattle.host.specs.Host.{namedAfter, openRefusal}
 use Rattle.log_store.specs.Effect.{opened}
 use Rattle.log_store.specs.Laws.EachRecordLaws.{Each, each-snoc, distinct-snoc, oldest-snoc}
+use Rattle.host.specs.Host.{namedAfter, openRefusal}
 use Rattle.host.specs.Laws.RefusalLaws.{OpenPassed, open-passed}
 use Rattle.host.specs.Laws.SoundParts.{ChainsTo, Chained, SoundState, sound-parts, sound-whole}
 

@@ -15,9 +15,8 @@ use Rattle.forms.specs.declared.terms.CounterId.{CounterId}
 use Rattle.forms.specs.declared.terms.GlobalClock.{GlobalClock}
 use Rattle.forms.specs.Laws.TestsLaws.{neither}
 use Rattle.log_image.specs.State.{Record}
-use Rattle.log_image.specs.Sound.{holds, indexOf, distinct, oldest}
+use Rattle.log_image.specs.Sound.{holds, indexOf, distinct, oldest, recordOf}
 use Rattle.log_image.specs.Laws.PassLaws.{distinct-parts, nonzero}
-use Rattle.log_image.specs.Sound.{recordOf}
 use Rattle.log_store.specs.Effect.{updated, raisedTo, confirmedBy, without}
 
 -- something holds of every one of a list, records or others

@@ -7,10 +7,9 @@ use Rattle.forms.specs.Terms.{sameId}
 use Rattle.forms.specs.Laws.TermsLaws.{same-id, same-turned}
 use Rattle.forms.specs.declared.terms.CounterId.{CounterId}
 use Rattle.log_image.specs.Laws.PassLaws.{distinct-parts}
-use Rattle.log_image.specs.Sound.{holds, distinct}
+use Rattle.log_image.specs.Sound.{holds, distinct, recordOf}
 use Rattle.log_image.specs.State.{Record}
 use Rattle.log_store.specs.Laws.EachRecordLaws.{Keeps, record-own, record-other}
-use Rattle.log_image.specs.Sound.{recordOf}
 use Rattle.log_store.specs.Effect.{updated, without}
 
 -- two ids that a third is the same as, and is not

@@ -11,11 +11,11 @@ use Rattle.forms.specs.Bytes.{Bytes}
 use Rattle.forms.specs.Limits.{maxCounters}
 use Rattle.log_image.specs.Sound.{sound}
 use Rattle.log_image.specs.State.{State, decode}
-use Rattle.host.specs.Laws.FittingLaws.{image-of, record-room, state-fits}
 use Rattle.log_store.specs.Laws.RecordStores.{added-counted, added-stored}
 use Rattle.log_store.specs.Store.{countersWith, recordAdded}
-use Rattle.host.specs.Host.{openRefusal}
 use Rattle.log_store.specs.Effect.{opened}
+use Rattle.host.specs.Laws.FittingLaws.{image-of, record-room, state-fits}
+use Rattle.host.specs.Host.{openRefusal}
 use Rattle.host.specs.Laws.RefusalLaws.{open-passed}
 use Rattle.host.specs.Laws.SettledLaws.{ends-unsound, ends-refused, ends-done}
 use Rattle.host.proofs.open.open.Statement.{statement}

@@ -1,8 +1,8 @@
 -- `tablets::act::renew` meets its contract, by the desk's two answers. Assumes nothing.
 use mathlib.Core.Path.{_≡_, sym, ap, _∙_}
 use borrow.Author.Needs.{needs}
-use Rattle.desk_table.specs.declared.answer.Answer.{Answer}
 use Rattle.forms.specs.declared.confirmation.Confirmation.{Confirmation}
+use Rattle.desk_table.specs.declared.answer.Answer.{Answer}
 use Rattle.host.specs.Host.{confirmCall}
 use Rattle.console.specs.Step.{emptyOutput, yes}
 use Rattle.tablets.specs.Act.{Renewed, confirmedBy, renewed}
