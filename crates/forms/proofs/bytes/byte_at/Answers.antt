@@ -1,0 +1,7 @@
+-- `forms::bytes::byte_at` meets its contract: past the end the element is the default. Assumes nothing.
+use mathlib.Core.Path.{sym}
+use lib.ListN.{get_or-eq_default}
+use Rattle.forms.proofs.bytes.byte_at.Goals as goal
+
+pub returns-else-at-s : goal.returns-else-at-s
+returns-else-at-s c = sym (get_or-eq_default c.args.s.now 0 c.if-at-s.false)

@@ -1,0 +1,22 @@
+-- `forms::number::put_u16` meets its contract: its stores, one a byte, are one store of the digits. Assumes nothing.
+use mathlib.Core.Path.{sym}
+use native.Mathlib.Omega.{arith}
+use native.Mathlib.Numerals.{towards_suc}
+use lib.ListN.{length-set}
+use Rattle.forms.specs.Number.{digits}
+use Rattle.forms.specs.Laws.BytesLaws.{overwrite-out, overwrite-sets}
+use Rattle.forms.proofs.number.put_u16.Goals as goal
+
+pub returns-then-s-at : goal.returns-then-s-at
+returns-then-s-at c = sym (overwrite-out c.args.s.now c.args.at (digits 2 c.args.x) (omega arith))
+
+pub returns-then-s-at-lt2 : goal.returns-then-s-at-lt2
+returns-then-s-at-lt2 c = sym (overwrite-out c.args.s.now c.args.at (digits 2 c.args.x) (omega arith))
+
+pub bounds-s-at-2 : goal.bounds-s-at-2
+bounds-s-at-2 c = simp length-set (omega arith)
+
+pub returns : goal.returns
+returns c =
+    let a = c.args in
+    simp towards_suc (overwrite-sets a.s.now a.at (digits 2 a.x) (omega arith))
