@@ -1,0 +1,29 @@
+-- `desk_table::verdicts::zero_or_one` meets its contract: no byte passed is over 1, or one was and the answer stands. Assumes nothing.
+use mathlib.Core.Path.{refl, sym, ◌∙◌}
+use mathlib.Core.Logic.{◌⊎◌, inl, inr, ⊎_elim}
+use Prim.Native.Nat.{◌-◌}
+use native.Mathlib.Omega.{arith}
+use borrow.Author.Rules.{rules}
+use borrow.Author.Count.{below_more}
+use Rattle.desk_table.specs.Laws.VerdictsLaws.{zero-or-one-yes, zero-or-one-no}
+use Rattle.desk_table.proofs.verdicts.zero_or_one.Goals as goal
+
+pub loop-i-init : goal.loop-i-init
+loop-i-init c = (search rules, inl (refl, λ k h. omega arith))
+
+pub loop-i-preserved : goal.loop-i-preserved
+loop-i-preserved c =
+    let turn = c.loop-i in (
+      search rules,
+      ⊎_elim
+          (λ w. inr (w.1, zero-or-one-no _ turn.i w.0.taken))
+          (λ w. ⊎_elim (λ all. inl (w.1 ∙ all.0, below_more _ _ all.1 w.0.left)) (λ some. inr (w.1 ∙ some.0, some.1)) turn.invariant.1)
+          c.if-verdicts-i-gt1.branch,
+    )
+
+pub returns : goal.returns
+returns c =
+    ⊎_elim
+    (λ all. all.0 ∙ sym (zero-or-one-yes _ (λ k h. all.1 k (omega arith))))
+    (λ some. some.0 ∙ sym some.1)
+    c.loop-i.invariant.1
