@@ -79,7 +79,7 @@ ones-right p s =
 pub verdicts-within : (s : List ℕ) (log before n k : ℕ) → k < n → verdicts_to s log before k + (1 + count_at s (offset_at s log k)) ≤ verdicts_to s log before n
 unfolding verdicts_to
 verdicts-within s log before zero k less = let no : ⊥ = omega arith in absurd no
-verdicts-within s log before (suc n) k less = elim (dec_le (suc k) n) [ yes earlier ↦ further (verdicts-within s log before n k earlier) | no later ↦ last (here later) ]
+verdicts-within s log before (suc n) k less = elim (dec_le (suc k) n) [ Prim.yes earlier ↦ further (verdicts-within s log before n k earlier) | no later ↦ last (here later) ]
   where
     Within : ℕ → Type 0
     Within j = verdicts_to s log before j + (1 + count_at s (offset_at s log j)) ≤ verdicts_to s log before n + (1 + count_at s (offset_at s log n))

@@ -384,6 +384,7 @@ module _ (first : GlobalClock) (signed : Signatures) (D : List Item) (Right : Co
 
         go : (o : List (List Request)) (fs : List HistoryEvent) → Pending o fs → Paid o given → one.pending ≡ fs → AtOne s (drop 1 o) d'
         go [] fs owes pays is = absurd pays
+        go (qs ∷ o) [] owes pays is = elim owes [ ]
         go (qs ∷ o) (e ∷ fs) (one_more fit owes) pays is =
             let same : increment (list qs fit) ≡ increment given = ap increment (list-one qs fit pays.0 ∙ sym pays.1) in
             let whole : history d ++ one.pending ≡ history d' ++ fs =

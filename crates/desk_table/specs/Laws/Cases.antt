@@ -263,6 +263,7 @@ holds c reads seals answers =
 
 in_table : (c : Case) (cs : List Case) → map reading cs ≡ map shape cs → map found cs ≡ map unfound cs → T (every cs) → Memᴰ c cs → Holds c
 unfolding every
+in_table c [] reads seals answers m = elim m [ ]
 in_table c (x ∷ xs) reads seals answers (Memᴰ.head e) =
     subst⁻¹ Holds e (holds x (head-eq_of_cons-eq reads) (head-eq_of_cons-eq seals) (both (agrees x (passed x)) (every xs) answers).0)
 in_table c (x ∷ xs) reads seals answers (Memᴰ.tail m) =
