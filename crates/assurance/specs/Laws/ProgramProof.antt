@@ -10,7 +10,6 @@ use Rattle.forms.specs.declared.running.Running.{Running}
 use Rattle.forms.specs.declared.terms.CounterId.{CounterId}
 use Rattle.forms.specs.declared.terms.GlobalClock.{GlobalClock}
 use Rattle.validity.specs.Proof.{Fields}
-use Rattle.desk_table.specs.Answer.{figures}
 use Rattle.desk_table.specs.Desk.{all_yes, verified}
 use Rattle.desk_table.specs.declared.answer.Figures.{Figures as DeskFigures}
 use Rattle.log_image.specs.Sound.{sound}
