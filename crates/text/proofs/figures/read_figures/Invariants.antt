@@ -9,7 +9,7 @@ use Rattle.text.proofs.figures.read_figures.Given as goal
 abbrev pub invariant-loop-i : goal.invariant-loop-i
 invariant-loop-i l = (length l.figures ≡ length l.initial.figures)
     × (l.count ≤ l.i)
-    × (figures_in l.text l.initial.figures ≡ foldl byte_read (record { l.count = l.count; l.figure = l.figure; stored = l.figures }) (drop l.i l.text))
+    × (figures_in l.text l.initial.figures ≡ foldl byte_read (record { count = l.count; figure = l.figure; stored = l.figures }) (drop l.i l.text))
 
 abbrev pub decreases-loop-i : goal.decreases-loop-i
 decreases-loop-i l = length l.text - l.i

@@ -11,7 +11,7 @@ returns-then-place-figures c =
     let a = c.args in
     let all = put_same a.text.now a.at _ (figure_at a.figures.now a.place)
     (sym (figure-there a.figures.now a.place (omega arith)))
-    c.put_figure.ensures in
+    (c.put_figure.ensures.value, c.put_figure.ensures.text_after) in
     record { value = all.0; text_after = all.1 }
 
 pub returns-else-place-figures : goal.returns-else-place-figures

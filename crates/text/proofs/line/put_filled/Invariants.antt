@@ -9,7 +9,8 @@ use Rattle.text.proofs.line.put_filled.Given as goal
 abbrev pub invariant-loop-i : goal.invariant-loop-i
 invariant-loop-i l = (length l.text ≡ length l.initial.text)
     × (l.asked ≤ l.i)
-    × (filled_in l.initial.text l.at l.words l.figures ≡ foldl (byte_filled l.figures) (record { l.text = l.text; l.end = l.end; l.asked = l.asked }) (drop l.i l.words))
+    × (filled_in l.initial.text l.at l.words l.figures
+    ≡ foldl (byte_filled l.figures) (record { text = l.text; end = l.end; asked = l.asked }) (drop l.i l.words))
 
 abbrev pub decreases-loop-i : goal.decreases-loop-i
 decreases-loop-i l = length l.words - l.i
