@@ -1,8 +1,8 @@
 -- What the bench prints for an input, from its lines: document 02, Note 8: "Lines .. in this order are `start clock`, `tablet box period belief`, one
 -- `run rounds`", "any other line, a period or box 0 or a 33rd tablet prints `27 0` and is passed over; `start` and `tablet` print nothing", and "`run`
 -- prints a line per tablet, by number". Definitions alone; the proof stands in a file of its own. Assumes nothing.
-use Rattle.std.specs.Prelude.{ℕ, ◌-◌, ◌^◌, ◌<◌, ◌≡◌, cond, length, replicate}
-use mathlib.Core.List.{List, [], ◌∷◌, ◌++◌, flatten, foldl}
+use Rattle.std.specs.Prelude.{ℕ, ◌-◌, ◌^◌, ◌<◌, ◌≡◌, cond, length, replicate, List, [], ◌∷◌, ◌++◌}
+use mathlib.Core.List.{flatten, foldl}
 use Rattle.forms.specs.Limits.{image_len}
 use Rattle.forms.specs.declared.terms.GlobalClock.{GlobalClock}
 use Rattle.grammar.specs.declared.order.Order.{Order}

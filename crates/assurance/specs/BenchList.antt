@@ -1,8 +1,8 @@
 -- The bench's tablets, as statements: document 02, Note 8: "After 22 a tablet's next act succeeds if no other tablet of its box acted between, the log
 -- has space and the clock can rise"; and that what an act does behind 22 and 24 comes about. Definitions alone; the proofs stand in files of their own.
 -- Assumes nothing.
-use Rattle.std.specs.Prelude.{ℕ, ◌^◌, ◌≤◌, ◌<◌, ◌≡◌, ◌⊎◌, length, get_or}
-use mathlib.Core.List.{List, [], ◌∷◌, ◌++◌, foldl}
+use Rattle.std.specs.Prelude.{ℕ, ◌^◌, ◌≤◌, ◌<◌, ◌≡◌, ◌⊎◌, length, get_or, List, [], ◌∷◌, ◌++◌}
+use mathlib.Core.List.{foldl}
 use Rattle.forms.specs.Entry.{units}
 use Rattle.forms.specs.Limits.{image_len, max_word, max_units}
 use Rattle.forms.specs.declared.terms.CounterId.{CounterId}

@@ -1,8 +1,8 @@
 -- The host's calls: document 01, "The host", and document 02: Note 4, "close", Note 6, the proofs counted for each counter, and Note 7, several
 -- requests under one increment. Each is a row of refusals in the order of its numbers, a value and the state after it; on refusal the image stays as
 -- it was. What a store makes of a state is said in `log_store`. Assumes nothing.
-use Rattle.std.specs.Prelude.{ℕ, zero, suc, ◌+◌, ◌-◌, ◌*◌, ◌/◌, ◌%◌, Bool, false, not, cond, ◌&&◌, ◌||◌, eqb, ltb, length, get_or, replicate, take, drop}
-use mathlib.Core.List.{List, [], ◌∷◌, ◌++◌, foldl}
+use Rattle.std.specs.Prelude.{ℕ, zero, suc, ◌+◌, ◌-◌, ◌*◌, ◌/◌, ◌%◌, Bool, false, not, cond, ◌&&◌, ◌||◌, eqb, ltb, length, get_or, replicate, take, drop, List, [], ◌∷◌, ◌++◌}
+use mathlib.Core.List.{foldl}
 use Rattle.forms.specs.Chain.{value_after, own_entries}
 use Rattle.forms.specs.declared.running.Running.{Running}
 use Rattle.forms.specs.Checks.{Row, ◌gives◌, first_answer}

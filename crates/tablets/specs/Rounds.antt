@@ -1,7 +1,7 @@
 -- The rounds of a run: document 02, Note 8: "In round r, from 1, tablets whose period divides r act by rising number." A run is the list of the turns
 -- that its rounds give, taken one after the other. Assumes nothing.
-use Rattle.std.specs.Prelude.{ℕ, zero, suc, ◌-◌, ◌%◌, Bool, not, cond, ◌&&◌, eqb, get_or, set, take}
-use mathlib.Core.List.{List, [], ◌∷◌, ◌++◌, foldl}
+use Rattle.std.specs.Prelude.{ℕ, zero, suc, ◌-◌, ◌%◌, Bool, not, cond, ◌&&◌, eqb, get_or, set, take, List, [], ◌∷◌, ◌++◌}
+use mathlib.Core.List.{foldl}
 use Rattle.forms.specs.Terms.{counter_id}
 use Rattle.tablets.specs.Act.{Acted, acted, tried}
 use Rattle.tablets.specs.Tablet.{Tablet, blank}

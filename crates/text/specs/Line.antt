@@ -1,6 +1,6 @@
 -- Text put into a buffer from a place on: bytes, a number in decimal figures, and words with figures in them. Assumes nothing.
-use Rattle.std.specs.Prelude.{ℕ, zero, suc, ◌+◌, ◌/◌, ◌%◌, cond, eqb, leb, ltb, length, get_or}
-use mathlib.Core.List.{List, [], ◌∷◌, ◌++◌, foldl}
+use Rattle.std.specs.Prelude.{ℕ, zero, suc, ◌+◌, ◌/◌, ◌%◌, cond, eqb, leb, ltb, length, get_or, List, [], ◌∷◌, ◌++◌}
+use mathlib.Core.List.{foldl}
 use Rattle.forms.specs.Bytes.{overwrite}
 use Rattle.text.specs.Text.{zero_digit}
 

@@ -1,7 +1,7 @@
 -- What the programs over text share, on bytes as lists of numbers: the part between two places, the first place of a byte, one number for
 -- many bytes, and the decimal figures of a text. Assumes nothing.
-use Rattle.std.specs.Prelude.{ℕ, suc, ◌+◌, ◌*◌, ◌-◌, ◌%◌, Bool, cond, ◌&&◌, eqb, leb, length, take, drop, set}
-use mathlib.Core.List.{List, [], ◌∷◌, foldl}
+use Rattle.std.specs.Prelude.{ℕ, suc, ◌+◌, ◌*◌, ◌-◌, ◌%◌, Bool, cond, ◌&&◌, eqb, leb, length, take, drop, set, List, [], ◌∷◌}
+use mathlib.Core.List.{foldl}
 
 -- ---- parts
 

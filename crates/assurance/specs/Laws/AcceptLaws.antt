@@ -1,10 +1,7 @@
 -- Fields of either kind that the desk accepts once they are written: the counter's confirmation, the entries after it, one for each reading,
 -- that chain, and a close with the wanted nonce. Assumes nothing.
-use Rattle.std.specs.Prelude.{ℕ, suc, ◌+◌, ◌^◌, ◌≤◌, ◌<◌, ◌≡◌, Bool, true, false, ◌&&◌, ◌||◌, List, [], ◌∷◌, ◌++◌, drop, get_or}
-use Rattle.std.proofs.Math.Path.{refl, ap}
-use Rattle.std.proofs.Common.{sym, ap₂, subst, ◌∙◌, append-nil, arith, drop_at, eq-eqb, ne_eqb}
-use Rattle.std.proofs.Math.Bool.{not}
-use Rattle.std.proofs.Math.ListN.{length, length-append}
+use Rattle.std.specs.Prelude.{ℕ, suc, ◌+◌, ◌^◌, ◌≤◌, ◌<◌, ◌≡◌, Bool, true, false, ◌&&◌, ◌||◌, List, [], ◌∷◌, ◌++◌, drop, get_or, refl, not, length}
+use Rattle.std.proofs.Common.{sym, ap₂, subst, ◌∙◌, append-nil, arith, drop_at, eq-eqb, ne_eqb, ap, length-append}
 use Rattle.forms.specs.Bytes.{same, window}
 use Rattle.forms.specs.Laws.BytesLaws.{same_refl, window-whole}
 use Rattle.forms.specs.Certificate.{certificate_bytes}

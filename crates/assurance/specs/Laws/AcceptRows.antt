@@ -1,15 +1,10 @@
 -- When the desk accepts bytes that read as a proof: every verdict is yes, and what is left of its table passes. The converse of what number 0
 -- shows (`Accepted`). Assumes nothing.
-use Prim.Native.Nat.{ℕ, zero, suc, ◌+◌, ◌-◌, ◌≤◌, ◌<◌}
-use Rattle.std.specs.Prelude.{◌≡◌, Bool, true, false, cond, ◌&&◌, ◌||◌, eqb, length, get_or, replicate}
-use Rattle.std.proofs.Math.Path.{refl, sym, ap, ap₂}
-use Rattle.std.proofs.Common.{subst, ◌∙◌}
-use Rattle.std.proofs.Math.Bool.{not}
-use mathlib.Core.List.{List, [], ◌∷◌}
-use native.Mathlib.Omega.{arith}
+use Rattle.std.specs.Prelude.{◌≡◌, Bool, true, false, cond, ◌&&◌, ◌||◌, eqb, length, get_or, replicate, ℕ, zero, suc, ◌+◌, ◌-◌, ◌≤◌, ◌<◌, refl, not, List, [], ◌∷◌}
+use Rattle.std.proofs.Common.{subst, ◌∙◌, sym, ap, ap₂, arith, eqb-true, eq-eqb, le-ltb, ltb-true}
+use Rattle.std.proofs.lemmas.Bool.{not-true}
 use Rattle.std.proofs.Math.Decide.{dec_le}
 use Rattle.std.proofs.lemmas.List.{length-replicate, get_or-replicate}
-use borrow.Author.Tests.{eqb-true, eq-eqb, le-ltb, ltb-true, not-true}
 use Rattle.forms.specs.Chain.{from_value, step_by, follows_by, step, follows, running_after, value_after, chains}
 use Rattle.forms.specs.Laws.ChainLaws.{running-snoc, chains_cons, value-cons, value_step}
 use Rattle.forms.specs.Checks.{Row, first_answer}

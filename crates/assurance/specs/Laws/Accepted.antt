@@ -1,7 +1,6 @@
 -- What an accepted call has shown: number 0 means that no row of the desk's table held, and here is what that says of the proof, of its
 -- verdicts, and of the value, the openings and the closing reading. Assumes nothing.
-use Rattle.std.specs.Prelude.{ℕ, ◌+◌, ◌-◌, ◌≤◌, ◌≡◌, Bool, true, false, cond, length, get_or}
-use Rattle.std.proofs.Math.Path.{refl}
+use Rattle.std.specs.Prelude.{ℕ, ◌+◌, ◌-◌, ◌≤◌, ◌≡◌, Bool, true, false, cond, length, get_or, refl}
 use Rattle.std.proofs.Common.{sym, ap, ◌∙◌}
 use Rattle.forms.specs.Chain.{follows_by}
 use Rattle.forms.specs.declared.running.Running.{Running}

@@ -1,10 +1,8 @@
 -- A tablet's act on an image that is kept: whatever its raise is answered, the image stays one that is kept, the same counters are held, every other
 -- counter has its current value as before, and where the tablet's counter is held the tablet believes its current value afterwards. Document 02,
 -- Note 8: "which a success makes the new clock; on 22 it proves, has the desk judge, confirms and adopts the value". Assumes nothing.
-use Rattle.std.specs.Prelude.{ℕ, ◌+◌, ◌-◌, ◌^◌, ◌≤◌, ◌<◌, ◌≡◌, Bool, List, [], ◌∷◌, eqb, ltb, length}
-use Rattle.std.proofs.Math.Path.{refl, ap, subst}
-use Rattle.std.proofs.Common.{sym, ap₂, ◌∙◌, arith, eqb-true, eq-eqb, ne_eqb, le-ltb}
-use Rattle.std.proofs.Math.Bool.{true, false, cond}
+use Rattle.std.specs.Prelude.{ℕ, ◌+◌, ◌-◌, ◌^◌, ◌≤◌, ◌<◌, ◌≡◌, Bool, List, [], ◌∷◌, eqb, ltb, length, refl, true, false, cond}
+use Rattle.std.proofs.Common.{sym, ap₂, ◌∙◌, arith, eqb-true, eq-eqb, ne_eqb, le-ltb, ap, subst}
 use Rattle.std.proofs.lemmas.Bool.{false≢true, eqb-false}
 use Rattle.forms.specs.Bytes.{Bytes}
 use Rattle.forms.specs.Entry.{units}

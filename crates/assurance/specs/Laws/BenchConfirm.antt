@@ -1,12 +1,8 @@
 -- The confirmation of a tablet's act is taken: on a sound state the host refuses no confirmation of a held counter's current value at the clock, and
 -- such a one the tablet makes of what the desk shows. Document 02, Note 8: "on 22 it proves, has the desk judge, confirms and adopts the value. On 24
 -- it proves and confirms only". Assumes nothing.
-use Prim.Native.Nat.{ℕ, ◌+◌, ◌-◌, ◌^◌, ◌≤◌, ◌<◌}
-use Rattle.std.specs.Prelude.{◌≡◌, Bool, true, false, ◌⊎◌, eqb, ltb, length}
-use Rattle.std.proofs.Math.Path.{refl, ap}
-use Rattle.std.proofs.Common.{sym, ap₂, subst, ◌∙◌, inl, inr, arith, eqb-true, eq-eqb, ne_eqb, le-ltb}
-use mathlib.Core.List.{List, [], ◌∷◌}
-use Rattle.std.proofs.Math.ListN.{drop, length-drop, drop_of_length-le}
+use Rattle.std.specs.Prelude.{◌≡◌, Bool, true, false, ◌⊎◌, eqb, ltb, length, ℕ, ◌+◌, ◌-◌, ◌^◌, ◌≤◌, ◌<◌, refl, List, [], ◌∷◌, drop}
+use Rattle.std.proofs.Common.{sym, ap₂, subst, ◌∙◌, inl, inr, arith, eqb-true, eq-eqb, ne_eqb, le-ltb, ap, length-drop, drop_of_length-le}
 use Rattle.forms.specs.Bytes.{Bytes}
 use Rattle.forms.specs.Chain.{running_after, value_after}
 use Rattle.forms.specs.Entry.{Entry}

@@ -1,11 +1,8 @@
 -- The claim of BenchInput.antt, proved along an input's lines: what each line prints where the bench stands, which tablets it adds, and that every
 -- input has its course. Figures that the grammar reads fit 32 bits, so that the bench's claim is about every input. Assumes nothing.
-use Prim.Native.Nat.{ℕ, zero, suc, ◌+◌, ◌-◌, ◌^◌, ◌<◌}
-use Rattle.std.specs.Prelude.{◌≡◌, Bool, true, false, cond, ◌||◌, ◌⊎◌, eqb, length, replicate}
-use Rattle.std.proofs.Math.Path.{refl, sym, ap}
-use Rattle.std.proofs.Common.{subst, ◌∙◌, inl, inr, length-append}
-use mathlib.Core.List.{List, [], ◌∷◌, ◌++◌, append_assoc, append-nil, flatten, foldl, foldl-append}
-use native.Mathlib.Omega.{arith}
+use Rattle.std.specs.Prelude.{◌≡◌, Bool, true, false, cond, ◌||◌, ◌⊎◌, eqb, length, replicate, ℕ, zero, suc, ◌+◌, ◌-◌, ◌^◌, ◌<◌, refl, List, [], ◌∷◌, ◌++◌}
+use Rattle.std.proofs.Common.{subst, ◌∙◌, inl, inr, length-append, sym, ap, append_assoc, append-nil, arith}
+use mathlib.Core.List.{flatten, foldl, foldl-append}
 use Rattle.std.proofs.lemmas.List.{length-replicate}
 use Rattle.std.proofs.lemmas.Bool.{eqb-false}
 use Rattle.forms.specs.Bytes.{same}

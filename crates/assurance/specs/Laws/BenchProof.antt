@@ -1,15 +1,11 @@
 -- The bench's claim of BenchList.antt, proved from one act to the next: in a depot as it was set up every tablet's box is held, and stays so through
 -- all turns; a tablet that acted believes its box's current value, until another tablet of the box acts. Assumes nothing.
-use Prim.Native.Nat.{ℕ, zero, suc, ◌+◌, ◌-◌, ◌^◌, ◌≤◌, ◌<◌}
-use Rattle.std.specs.Prelude.{◌≡◌, Bool, true, cond, ◌||◌, eqb, ltb, length, drop, get_or, set}
-use Rattle.std.proofs.Math.Path.{refl, sym, ap, subst}
-use Rattle.std.proofs.Common.{◌∙◌, arith, lit<, length-append, get_or-set_other, get_or-set_same}
-use Rattle.std.proofs.Math.Bool.{false, or-true}
+use Rattle.std.specs.Prelude.{◌≡◌, Bool, true, cond, ◌||◌, eqb, ltb, length, drop, get_or, set, ℕ, zero, suc, ◌+◌, ◌-◌, ◌^◌, ◌≤◌, ◌<◌, refl, false, List, [], ◌∷◌, ◌++◌}
+use Rattle.std.proofs.Common.{◌∙◌, arith, lit<, length-append, get_or-set_other, get_or-set_same, sym, ap, subst, append_assoc, append-nil, length-set, eq-eqb, ne_eqb, le-ltb}
+use Rattle.std.proofs.Math.Bool.{or-true}
 use Rattle.std.proofs.lemmas.Bool.{false≢true}
-use mathlib.Core.List.{List, [], ◌∷◌, ◌++◌, append_assoc, append-nil, foldl, foldl-append}
+use mathlib.Core.List.{foldl, foldl-append}
 use Rattle.std.proofs.Math.Nat.{sub-zero}
-use Rattle.std.proofs.Math.ListN.{length-set}
-use borrow.Author.Tests.{eq-eqb, ne_eqb, le-ltb}
 use Rattle.forms.specs.Chain.{own_entries}
 use Rattle.forms.specs.Entry.{Entry}
 use Rattle.forms.specs.Limits.{image_len, max_counters}

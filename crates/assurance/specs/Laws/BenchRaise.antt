@@ -1,12 +1,9 @@
 -- A tablet's raise, which is a batch of one: it is answered as any call is, with the number that the request has in its own table. And what that
 -- number says of the state: 22 where the belief is not the counter's current value, and 0 where it is and log and clock leave room. Document 02,
 -- Note 8. Assumes nothing.
-use Rattle.std.specs.Prelude.{ℕ, ◌+◌, ◌-◌, ◌*◌, ◌/◌, ◌%◌, ◌≡◌, Bool, true, cond, ◌&&◌, ◌||◌, eqb, ltb, length, get_or, replicate}
-use Rattle.std.proofs.Math.Path.{refl, ap, ap₂}
-use Rattle.std.proofs.Common.{sym, subst, ◌∙◌, arith, eqb-true, eq-eqb}
-use Rattle.std.proofs.Math.Bool.{false, not}
+use Rattle.std.specs.Prelude.{ℕ, ◌+◌, ◌-◌, ◌*◌, ◌/◌, ◌%◌, ◌≡◌, Bool, true, cond, ◌&&◌, ◌||◌, eqb, ltb, length, get_or, replicate, refl, false, not, List, [], ◌∷◌, ◌++◌}
+use Rattle.std.proofs.Common.{sym, subst, ◌∙◌, arith, eqb-true, eq-eqb, ap, ap₂, append-nil}
 use Rattle.std.proofs.lemmas.Bool.{false≢true, eqb-false}
-use mathlib.Core.List.{List, [], ◌∷◌, ◌++◌, append-nil}
 use Rattle.forms.specs.Bytes.{Bytes}
 use Rattle.forms.specs.Entry.{units}
 use Rattle.forms.specs.Limits.{max_word, max_requests, max_units, nonce_len, request_len}

@@ -1,9 +1,7 @@
 -- The history's increment at an entry's reading carries the entry's requests, or the two clash; where it carries them, the history counts that reading for
 -- the wanted counter exactly if the entry is the counter's own. Assumes nothing.
-use Rattle.std.specs.Prelude.{ℕ, zero, suc, ◌≤◌, ◌≡◌, Bool, true, false, not, ◌&&◌, ◌⊎◌, take, drop}
-use Rattle.std.proofs.Math.Path.{refl, ap}
-use Rattle.std.proofs.Common.{sym, subst, ◌∙◌, true≢false, inl, inr, arith, ne_eqb}
-use mathlib.Core.List.{List}
+use Rattle.std.specs.Prelude.{ℕ, zero, suc, ◌≤◌, ◌≡◌, Bool, true, false, not, ◌&&◌, ◌⊎◌, take, drop, refl, List}
+use Rattle.std.proofs.Common.{sym, subst, ◌∙◌, true≢false, inl, inr, arith, ne_eqb, ap}
 use Rattle.std.proofs.Math.Decide.{dec_le}
 use Rattle.forms.specs.Bytes.{Bytes, same}
 use Rattle.forms.specs.Laws.BytesLaws.{same_refl, same-equal}

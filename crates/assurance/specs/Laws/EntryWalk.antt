@@ -1,10 +1,7 @@
 -- Running value and count along a proof's entries are the walk along the clock, where entry k has the reading k after the start and that reading
 -- counts exactly if the entry is the counter's own. Assumes nothing.
-use Prim.Native.Nat.{ℕ, zero, suc, ◌+◌, ◌≤◌}
-use Rattle.std.specs.Prelude.{◌≡◌, Bool, List}
-use Rattle.std.proofs.Math.Path.{refl, sym, ap, ap₂}
-use Rattle.std.proofs.Common.{◌∙◌, arith}
-use Rattle.std.proofs.Math.Bool.{cond}
+use Rattle.std.specs.Prelude.{◌≡◌, Bool, List, ℕ, zero, suc, ◌+◌, ◌≤◌, refl, cond}
+use Rattle.std.proofs.Common.{◌∙◌, arith, sym, ap, ap₂}
 use Rattle.forms.specs.Chain.{from_value, raised_running}
 use Rattle.forms.specs.declared.running.Running.{Running}
 use Rattle.forms.specs.Terms.{global_clock}

@@ -1,13 +1,10 @@
 -- The proofs that an honest host sets out are accepted: from a sound state, all verdicts yes, `prove`'s shows the counter's current value and
 -- openings at the clock, and `last`'s shows the t asked for and the number of the counter's entries up to it. Document 01, "The host"; the
 -- host's half of demand 3, at one state. Assumes nothing.
-use Rattle.std.specs.Prelude.{ℕ, zero, suc, ◌+◌, ◌-◌, ◌^◌, ◌≤◌, ◌<◌, ◌≡◌, Bool, true, false, cond, ◌&&◌, ◌||◌, List, [], ◌∷◌, ◌++◌, eqb, take, drop}
-use Rattle.std.proofs.Math.Path.{refl, ap, ap₂}
-use Rattle.std.proofs.Common.{sym, ◌∙◌, true≢false, arith, length-append, take-append-drop, eqb-true, ne_eqb}
+use Rattle.std.specs.Prelude.{ℕ, zero, suc, ◌+◌, ◌-◌, ◌^◌, ◌≤◌, ◌<◌, ◌≡◌, Bool, true, false, cond, ◌&&◌, ◌||◌, List, [], ◌∷◌, ◌++◌, eqb, take, drop, refl, length}
+use Rattle.std.proofs.Common.{sym, ◌∙◌, true≢false, arith, length-append, take-append-drop, eqb-true, ne_eqb, ap, ap₂, zero-add, length-drop}
 use Rattle.std.proofs.lemmas.Bool.{false≢true}
 use Rattle.std.proofs.Math.Bool.{and-false}
-use Rattle.std.proofs.Math.Nat.{zero-add}
-use Rattle.std.proofs.Math.ListN.{length, length-drop}
 use Rattle.forms.specs.Chain.{from_value, running_after, value_after, chains, own_entries}
 use Rattle.forms.specs.Laws.ChainLaws.{chains-append, openings-counted, value-snoc, step-own}
 use Rattle.forms.specs.Entry.{Entry, units}

@@ -1,11 +1,9 @@
 -- The figure in a counter's record is the number of proofs written for it since its opening: the claim of Invoice.antt, proved call by call. What a
 -- call makes of a figure is said of the states before and after it. Assumes nothing.
-use Rattle.std.specs.Prelude.{ℕ, ◌+◌, ◌^◌, ◌<◌, min, ◌≡◌, Bool, true, false, cond, ◌||◌, eqb, length}
-use Rattle.std.proofs.Math.Path.{refl}
+use Rattle.std.specs.Prelude.{ℕ, ◌+◌, ◌^◌, ◌<◌, min, ◌≡◌, Bool, true, false, cond, ◌||◌, eqb, length, refl, List, [], ◌∷◌}
 use Rattle.std.proofs.Common.{sym, ap, subst, ◌∙◌, true≢false, arith, eqb-true}
 use Rattle.std.proofs.lemmas.Bool.{false≢true, eqb-false}
 use Rattle.std.proofs.Math.Bool.{or-false}
-use mathlib.Core.List.{List, [], ◌∷◌}
 use Rattle.forms.specs.Bytes.{Bytes}
 use Rattle.forms.specs.Limits.{max_word, image_len}
 use Rattle.forms.specs.Record.{taken}

@@ -1,16 +1,14 @@
 -- The program's lines, proved: behind a start that was done no line finds the image unsound, and every proof that the host writes is shown with
 -- 0 and its value. Assumes nothing.
-use Prim.Native.Nat.{ℕ, zero, suc, ◌-◌}
-use Rattle.std.specs.Prelude.{◌≡◌, refl, Bool, true, false, not, cond, ◌&&◌, eqb, length, get_or, take, replicate}
+use Rattle.std.specs.Prelude.{◌≡◌, refl, Bool, true, false, not, cond, ◌&&◌, eqb, length, get_or, take, replicate, ℕ, zero, suc, ◌-◌, List, [], ◌∷◌, ◌++◌}
 use Rattle.std.proofs.Common.{sym, ap, ◌∙◌, arith, eqb-true, eq-eqb}
-use mathlib.Core.List.{List, [], ◌∷◌, ◌++◌, foldl}
+use mathlib.Core.List.{foldl}
 use Rattle.std.proofs.lemmas.List.{length-replicate}
 use Rattle.forms.specs.Limits.{image_len, max_requests}
 use Rattle.forms.specs.declared.running.Running.{Running}
 use Rattle.forms.specs.declared.terms.CounterId.{CounterId}
 use Rattle.forms.specs.declared.terms.GlobalClock.{GlobalClock}
 use Rattle.validity.specs.Proof.{Fields}
-use Rattle.desk_table.specs.Answer.{figures}
 use Rattle.desk_table.specs.Desk.{all_yes, verified}
 use Rattle.desk_table.specs.declared.answer.Figures.{Figures as DeskFigures}
 use Rattle.log_image.specs.Sound.{sound}

@@ -1,8 +1,7 @@
 -- What the rows of the desk's table say where their tests do not hold, and that number 0 means that no test holds. They stand in the table's
 -- order, but for 4, which the closing reading needs; 2, 3 and 5 are said by `Reads` of validity. Assumes nothing.
 use Rattle.std.specs.Prelude.{ℕ, zero, suc, ◌+◌, ◌-◌, ◌≤◌, ◌≡◌, refl, Bool, true, false, not, cond, ◌&&◌, List, [], ◌∷◌, eqb, leb, ltb, length, get_or}
-use Rattle.std.proofs.Common.{sym, ap, ◌∙◌, arith, eqb-true, eq-eqb, ltb-false, leb-true}
-use Rattle.std.proofs.Math.Path.{subst}
+use Rattle.std.proofs.Common.{sym, ap, ◌∙◌, arith, eqb-true, eq-eqb, ltb-false, leb-true, subst}
 use Rattle.std.proofs.lemmas.Bool.{false≢true, eqb-false, not-true, not-false}
 use Rattle.forms.specs.Bytes.{same, window}
 use Rattle.forms.specs.Laws.BytesLaws.{same-equal, window-whole}

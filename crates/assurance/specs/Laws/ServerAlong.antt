@@ -1,9 +1,6 @@
 -- What is supposed of an honest server's list, shown item by item: for the worked lists. Assumes nothing.
-use Prim.Native.Nat.{ℕ, zero, suc}
-use Rattle.std.proofs.Math.Path.{◌≡◌, subst}
-use Rattle.std.proofs.Common.{sym, arith}
-use Rattle.std.specs.Prelude.{◌⊎◌, length, take}
-use mathlib.Core.List.{List, [], ◌∷◌, ◌++◌, append_assoc, append-nil}
+use Rattle.std.proofs.Common.{sym, arith, subst, append_assoc, append-nil}
+use Rattle.std.specs.Prelude.{◌⊎◌, length, take, ℕ, zero, suc, ◌≡◌, List, [], ◌∷◌, ◌++◌}
 use Rattle.forms.specs.declared.request.Request.{Request}
 use Rattle.forms.specs.declared.terms.CounterId.{CounterId}
 use Rattle.forms.specs.declared.terms.GlobalClock.{GlobalClock}

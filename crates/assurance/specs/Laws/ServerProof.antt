@@ -1,9 +1,8 @@
 -- An honest server's proofs get a true yes to everything: up to every place the image is at one with the history, and so is a proof written from it
 -- there. Assumes nothing.
-use Rattle.std.specs.Prelude.{ℕ, zero, suc, ◌+◌, ◌-◌, ◌^◌, ◌≤◌, ◌<◌, refl, true, ◌⊎◌, length, take, drop}
-use Rattle.std.proofs.Math.Path.{◌≡◌, subst, subst₃}
-use Rattle.std.proofs.Common.{sym, ap, ap₂, subst₂, ◌∙◌, true≢false, arith, take-append-drop}
-use mathlib.Core.List.{List, [], ◌∷◌, ◌++◌, append-nil}
+use Rattle.std.specs.Prelude.{ℕ, zero, suc, ◌+◌, ◌-◌, ◌^◌, ◌≤◌, ◌<◌, refl, true, ◌⊎◌, length, take, drop, ◌≡◌, List, [], ◌∷◌, ◌++◌}
+use Rattle.std.proofs.Math.Path.{subst₃}
+use Rattle.std.proofs.Common.{sym, ap, ap₂, subst₂, ◌∙◌, true≢false, arith, take-append-drop, subst, append-nil}
 use Rattle.std.proofs.Math.Option.{some}
 use Rattle.std.proofs.Math.Seq.{take-append-add}
 use Rattle.forms.specs.Entry.{Entry, entries_at}

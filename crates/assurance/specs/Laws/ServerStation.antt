@@ -1,14 +1,10 @@
 -- A station each of whose noes is true says yes to all of a proof that the history bears out, on every request of every entry, and so its desk accepts.
 -- Assumes nothing.
-use Prim.Native.Nat.{ℕ, zero, suc, ◌+◌, ◌-◌, ◌≤◌, ◌<◌}
-use Rattle.std.specs.Prelude.{◌≡◌, true, List, [], ◌∷◌, length}
-use Rattle.std.proofs.Math.Path.{refl}
-use Rattle.std.proofs.Common.{sym, ap, subst, ◌∙◌, ext_get_or}
-use Rattle.std.proofs.Math.Bool.{true≢false}
+use Rattle.std.specs.Prelude.{◌≡◌, true, List, [], ◌∷◌, length, ℕ, zero, suc, ◌+◌, ◌-◌, ◌≤◌, ◌<◌, refl, get_or}
+use Rattle.std.proofs.Common.{sym, ap, subst, ◌∙◌, ext_get_or, true≢false, arith}
 use Rattle.std.proofs.Math.Option.{some}
 use Rattle.std.proofs.Math.Decide.{dec_le}
-use native.Mathlib.Omega.{arith}
-use Rattle.std.proofs.Math.ListN.{get_or, get_elem?}
+use Rattle.std.proofs.Math.ListN.{get_elem?}
 use Rattle.std.proofs.lemmas.List.{length-replicate, get_or-replicate}
 use Rattle.forms.specs.Entry.{count_at, entry_at, offset_at}
 use Rattle.forms.specs.Limits.{head_len}

@@ -1,11 +1,8 @@
 -- A confirmation that tells the value which a history gives its counter; a later one that the host takes for its counter tells it too, whatever a desk
 -- said of it: the entries between the two are the history's. Assumes nothing.
-use Rattle.std.specs.Prelude.{ℕ, ◌+◌, ◌-◌, ◌^◌, ◌≤◌, ◌<◌, ◌≡◌, refl, Bool, true, false, not, cond, ◌&&◌, ◌||◌, eqb}
-use Rattle.std.proofs.Math.Path.{sym, ap, subst}
-use Rattle.std.proofs.Common.{◌∙◌, arith, eqb-true}
+use Rattle.std.specs.Prelude.{ℕ, ◌+◌, ◌-◌, ◌^◌, ◌≤◌, ◌<◌, ◌≡◌, refl, Bool, true, false, not, cond, ◌&&◌, ◌||◌, eqb, List, [], ◌∷◌, ◌++◌, length, take}
+use Rattle.std.proofs.Common.{◌∙◌, arith, eqb-true, sym, ap, subst, length-take}
 use Rattle.std.proofs.lemmas.Bool.{false≢true, not-true}
-use mathlib.Core.List.{List, [], ◌∷◌, ◌++◌}
-use Rattle.std.proofs.Math.ListN.{length, take, length-take}
 use Rattle.forms.specs.Chain.{running_after, value_after}
 use Rattle.forms.specs.Laws.ChainLaws.{value-cons, value_step, step-own, step_other}
 use Rattle.forms.specs.Entry.{Entry}

@@ -1,9 +1,6 @@
 -- What an order prints is no longer than a result of all tablets, and there are never more of them. Assumes nothing.
-use Rattle.std.specs.Prelude.{ℕ, ◌≤◌, ◌<◌, ◌≡◌, Bool, cond, ◌||◌, List, eqb, leb, length}
-use Rattle.std.proofs.Common.{arith, true≢false, leb-false}
-use Rattle.std.proofs.Math.Path.{refl}
-use Rattle.std.proofs.Math.Bool.{true, false}
-use Rattle.std.proofs.Math.ListN.{length-append}
+use Rattle.std.specs.Prelude.{ℕ, ◌≤◌, ◌<◌, ◌≡◌, Bool, cond, ◌||◌, List, eqb, leb, length, refl, true, false}
+use Rattle.std.proofs.Common.{arith, true≢false, leb-false, length-append}
 use Rattle.forms.specs.declared.terms.CounterId.{CounterId}
 use Rattle.forms.specs.declared.terms.GlobalClock.{GlobalClock}
 use Rattle.grammar.specs.declared.order.Order.{Order}

@@ -1,8 +1,6 @@
 -- The text of a run's result: how long it is, and how it is stored, a line behind the other. Assumes nothing.
 use Rattle.std.specs.Prelude.{ℕ, ◌+◌, ◌*◌, ◌≤◌, ◌<◌, ◌≡◌, List, [], ◌∷◌, ◌++◌, length, get_or, take}
-use Rattle.std.proofs.Common.{add-zero, add-one, arith, sym, ◌∙◌, append_assoc, append-nil, length-take-le, take_all, take-suc}
-use Rattle.std.proofs.Math.Path.{ap}
-use Rattle.std.proofs.Math.ListN.{length-append}
+use Rattle.std.proofs.Common.{add-zero, add-one, arith, sym, ◌∙◌, append_assoc, append-nil, length-take-le, take_all, take-suc, ap, length-append}
 use Rattle.forms.specs.Bytes.{overwrite}
 use Rattle.forms.specs.Laws.BytesLaws.{length-overwrite, stored_next}
 use Rattle.tablets.specs.Tablet.{max_tablets}

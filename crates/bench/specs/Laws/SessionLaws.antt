@@ -1,7 +1,7 @@
 -- What the bench prints for a line is short, and what it prints for an input is the same however the input is cut. Assumes nothing.
-use Rattle.std.specs.Prelude.{ℕ, ◌≤◌, ◌≡◌, length}
+use Rattle.std.specs.Prelude.{ℕ, ◌≤◌, ◌≡◌, length, List, []}
 use Rattle.std.proofs.Common.{arith, ap, length-take}
-use mathlib.Core.List.{List, [], flatten}
+use mathlib.Core.List.{flatten}
 use Rattle.grammar.specs.declared.order.Order.{Order}
 use Rattle.console.specs.Lines.{Pending, within}
 use Rattle.console.specs.Laws.LinesPrinted.{printed_in_parts, parts-printed}

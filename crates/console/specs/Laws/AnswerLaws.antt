@@ -1,8 +1,6 @@
 -- The text of an answer, stored part by part. Assumes nothing.
 use Rattle.std.specs.Prelude.{ℕ, ◌+◌, ◌≤◌, ◌≡◌, List, [], ◌∷◌, ◌++◌, length}
-use Rattle.std.proofs.Math.Path.{ap}
-use Rattle.std.proofs.Common.{◌∙◌, append_assoc, arith}
-use Rattle.std.proofs.Math.ListN.{length-append}
+use Rattle.std.proofs.Common.{◌∙◌, append_assoc, arith, ap, length-append}
 use Rattle.forms.specs.Bytes.{overwrite}
 use Rattle.forms.specs.Laws.BytesLaws.{stored_next}
 use Rattle.host.specs.declared.answer.Figures.{Figures}

@@ -1,8 +1,6 @@
 -- Where the code stands in a session, and what each of its functions does there, whatever it is that answers a line. Assumes nothing.
-use Rattle.std.specs.Prelude.{ℕ, zero, suc, ◌+◌, ◌-◌, ◌*◌, ◌/◌, ◌≤◌, ◌<◌, ◌≡◌, Bool, List, [], ◌∷◌, ◌++◌, eqb, leb, ltb, length, take, drop, get_or, set}
-use Rattle.std.proofs.Common.{mul-suc, add-one, arith, sym, ap₂, ◌∙◌, subst, append_assoc, length-append, length-take, take-append-drop, drop_of_length-le, take_at, take-suc-set, drop_at, drop-cons, drop-drop, length-take-le, le-leb, lt-ltb, le-ltb, eq-eqb, ne_eqb}
-use Rattle.std.proofs.Math.Path.{refl, ap}
-use Rattle.std.proofs.Math.Bool.{true, false, cond}
+use Rattle.std.specs.Prelude.{ℕ, zero, suc, ◌+◌, ◌-◌, ◌*◌, ◌/◌, ◌≤◌, ◌<◌, ◌≡◌, Bool, List, [], ◌∷◌, ◌++◌, eqb, leb, ltb, length, take, drop, get_or, set, refl, true, false, cond}
+use Rattle.std.proofs.Common.{mul-suc, add-one, arith, sym, ap₂, ◌∙◌, subst, append_assoc, length-append, length-take, take-append-drop, drop_of_length-le, take_at, take-suc-set, drop_at, drop-cons, drop-drop, length-take-le, le-leb, lt-ltb, le-ltb, eq-eqb, ne_eqb, ap}
 use Rattle.std.proofs.lemmas.Bool.{lt-leb}
 use Rattle.forms.specs.Bytes.{overwrite}
 use Rattle.forms.specs.Laws.BytesLaws.{overwrite-fits, length-overwrite}

@@ -1,11 +1,8 @@
 -- What is printed for an input is the transcript of its lines, and so it is however the input is cut, whatever it is that answers a line. Assumes
 -- nothing.
-use Prim.Native.Nat.{ℕ, ◌<◌}
-use Rattle.std.proofs.Common.{add-one, arith, ◌∙◌, length-append, leb-false}
-use Rattle.std.specs.Prelude.{◌≡◌, Bool, cond, eqb, leb, length}
-use Rattle.std.proofs.Math.Path.{refl, sym, ap}
-use Rattle.std.proofs.Math.Bool.{true, false}
-use mathlib.Core.List.{List, [], ◌∷◌, ◌++◌, append_assoc, append-nil, flatten}
+use Rattle.std.proofs.Common.{add-one, arith, ◌∙◌, length-append, leb-false, sym, ap, append_assoc, append-nil}
+use Rattle.std.specs.Prelude.{◌≡◌, Bool, cond, eqb, leb, length, ℕ, ◌<◌, refl, true, false, List, [], ◌∷◌, ◌++◌}
+use mathlib.Core.List.{flatten}
 use Rattle.std.proofs.lemmas.Bool.{lt-leb}
 use Rattle.console.specs.Lines.{Answering, Session, Pending, within, over, begun, byte_taken, closed, ended, extended, lines, max_line, newline, pending_for, taken, to_first, transcript}
 

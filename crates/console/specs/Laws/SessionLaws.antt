@@ -1,7 +1,7 @@
 -- What the program answers to a line, as its code has it. Assumes nothing.
-use Rattle.std.specs.Prelude.{ℕ, ◌≤◌, ◌≡◌, refl, Bool, true, false, cond, leb, length, replicate}
+use Rattle.std.specs.Prelude.{ℕ, ◌≤◌, ◌≡◌, refl, Bool, true, false, cond, leb, length, replicate, List, []}
 use Rattle.std.proofs.Common.{ap, ap₂, ◌∙◌}
-use mathlib.Core.List.{List, [], flatten}
+use mathlib.Core.List.{flatten}
 use Rattle.forms.specs.Limits.{image_len}
 use Rattle.host.specs.declared.answer.Figures.{Figures}
 use Rattle.grammar.specs.Command.{command_of}

@@ -2,10 +2,10 @@
 -- nonce that a proof of kind 2 closes on and one of another counter's reading, as one table: each row is a proof by its fields, its verdicts, what is
 -- wanted, and the answer's number, value, place and openings. Each entry carries one request, and its nonce is the digest of that. One theorem says
 -- that the desk's definition gives every row its answer, whatever the digests are. Assumes nothing.
-use Rattle.std.specs.Prelude.{◌≡◌, refl, ℕ, suc, Bool, true, false, not, cond, ◌&&◌, T, eqb, length, replicate, take, drop}
+use Rattle.std.specs.Prelude.{◌≡◌, refl, ℕ, suc, Bool, true, false, not, cond, ◌&&◌, T, eqb, length, replicate, take, drop, List, [], ◌∷◌, ◌++◌, map}
 use Rattle.std.proofs.Common.{sym, ap, ◌∙◌, subst, eqb→eq}
 use Rattle.std.proofs.Math.Path.{subst⁻¹}
-use mathlib.Core.List.{List, [], ◌∷◌, ◌++◌, map, head-eq_of_cons-eq, tail-eq_of_cons-eq, Memᴰ}
+use mathlib.Core.List.{head-eq_of_cons-eq, tail-eq_of_cons-eq, Memᴰ}
 use Rattle.forms.specs.Checks.{first_answer}
 use Rattle.forms.specs.Limits.{nonce_len}
 use Rattle.forms.specs.Terms.{counter_id, global_clock}

@@ -1,9 +1,6 @@
 -- The words of a line, one after the other, and its name compared byte by byte. Assumes nothing.
-use Rattle.std.specs.Prelude.{ℕ, suc, ◌+◌, ◌-◌, ◌≤◌, ◌<◌, ◌≡◌, refl, Bool, true, false, cond, ◌&&◌, List, [], ◌∷◌, ltb, length, get_or, take, drop}
-use Rattle.std.proofs.Common.{sym, ap, ◌∙◌, arith, add-one, add_assoc, length-drop, drop_of_length-le, drop-cons, drop-drop, get_or-take, ltb-true, ltb-false, lt-ltb, le-ltb}
-use Rattle.std.proofs.Math.Path.{ap₂}
-use Rattle.std.proofs.Math.Dec.{eqb}
-use Rattle.std.proofs.Math.ListN.{length-take}
+use Rattle.std.specs.Prelude.{ℕ, suc, ◌+◌, ◌-◌, ◌≤◌, ◌<◌, ◌≡◌, refl, Bool, true, false, cond, ◌&&◌, List, [], ◌∷◌, ltb, length, get_or, take, drop, eqb}
+use Rattle.std.proofs.Common.{sym, ap, ◌∙◌, arith, add-one, add_assoc, length-drop, drop_of_length-le, drop-cons, drop-drop, get_or-take, ltb-true, ltb-false, lt-ltb, le-ltb, ap₂, length-take}
 use Rattle.forms.specs.Bytes.{same}
 use Rattle.forms.specs.Laws.BytesLaws.{same-equal}
 use Rattle.text.specs.Text.{before, first_place}

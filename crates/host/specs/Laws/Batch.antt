@@ -1,11 +1,8 @@
 -- How the code holds a batch half judged: the numbers in their places, and those that passed, joined. Assumes nothing.
-use Rattle.std.specs.Prelude.{ℕ, ◌+◌, ◌-◌, ◌*◌, ◌/◌, ◌%◌, ◌≤◌, ◌≡◌, Bool, true, cond, ◌&&◌, List, [], ◌∷◌, ◌++◌, eqb, length, replicate, set, take}
+use Rattle.std.specs.Prelude.{ℕ, ◌+◌, ◌-◌, ◌*◌, ◌≤◌, ◌≡◌, cond, List, ◌++◌, eqb, length, replicate, set, take}
 use Rattle.forms.specs.Bytes.{overwrite, window}
 use Rattle.forms.specs.Limits.{max_requests, request_len}
-use Rattle.forms.specs.Request.{RequestsFit, joined, requests_at}
-use Rattle.forms.specs.declared.request.Request.{Request}
-use Rattle.log_image.specs.Sound.{holds}
-use Rattle.log_image.specs.State.{Record}
+use Rattle.forms.specs.Request.{RequestsFit, joined}
 use Rattle.host.specs.Host.{Batch}
 use Rattle.host.specs.declared.batch.Judged.{Judged}
 

@@ -1,14 +1,10 @@
 -- A batch: what it is like where it is not refused as a whole, and what holds of its requests that passed. Each names a held counter, which is not 0
 -- and which no other of them names, and states its current value; there is room for them; and the clock can rise if there are any. Assumes nothing.
-use Rattle.std.specs.Prelude.{◌≡◌, ℕ, zero, suc, ◌+◌, ◌*◌, ◌/◌, ◌%◌, ◌≤◌, ◌<◌, Bool, ◌&&◌}
-use Rattle.std.proofs.Math.Path.{refl, sym, ap, ap₂}
-use Rattle.std.proofs.Common.{subst, ◌∙◌, div-add-mod', eqb-true, ne_eqb, ltb-false}
-use native.Mathlib.Omega.{arith}
-use Rattle.std.proofs.Math.Bool.{true, false, cond, ◌||◌, or-false}
+use Rattle.std.specs.Prelude.{◌≡◌, ℕ, zero, suc, ◌+◌, ◌*◌, ◌/◌, ◌%◌, ◌≤◌, ◌<◌, Bool, ◌&&◌, refl, true, false, cond, ◌||◌, List, [], ◌∷◌, ◌++◌, eqb, length}
+use Rattle.std.proofs.Common.{subst, ◌∙◌, div-add-mod', eqb-true, ne_eqb, ltb-false, sym, ap, ap₂, arith, length-append}
+use Rattle.std.proofs.Math.Bool.{or-false}
 use Rattle.std.proofs.lemmas.Bool.{false≢true, eqb-false, not-false}
-use mathlib.Core.List.{List, [], ◌∷◌, ◌++◌, foldl}
-use Rattle.std.proofs.Math.Dec.{eqb}
-use Rattle.std.proofs.Math.ListN.{length, length-append}
+use mathlib.Core.List.{foldl}
 use Rattle.forms.specs.Bytes.{Bytes}
 use Rattle.forms.specs.Entry.{units, units_of}
 use Rattle.forms.specs.Limits.{max_word, max_requests, max_units, request_len}

@@ -1,8 +1,7 @@
 -- What the code has of a batch half judged, request by request. Assumes nothing.
-use Rattle.std.specs.Prelude.{◌≡◌, refl, ℕ, zero, suc, ◌+◌, ◌-◌, ◌*◌, ◌≤◌, ◌<◌, Bool, true, false, cond, eqb, length, get_or, replicate, set, take, drop}
-use Rattle.std.proofs.Common.{sym, ap, ap₂, ◌∙◌, arith, length-append, take-append-drop, take_at, eq-eqb, ne_eqb}
-use Rattle.std.proofs.Math.Path.{subst}
-use mathlib.Core.List.{List, [], ◌∷◌, ◌++◌, append_assoc, append-nil, foldl, foldl-append}
+use Rattle.std.specs.Prelude.{◌≡◌, refl, ℕ, zero, suc, ◌+◌, ◌-◌, ◌*◌, ◌≤◌, ◌<◌, Bool, true, false, cond, eqb, length, get_or, replicate, set, take, drop, List, [], ◌∷◌, ◌++◌}
+use Rattle.std.proofs.Common.{sym, ap, ap₂, ◌∙◌, arith, length-append, take-append-drop, take_at, eq-eqb, ne_eqb, subst, append_assoc, append-nil}
+use mathlib.Core.List.{foldl, foldl-append}
 use Rattle.std.proofs.lemmas.List.{set_at}
 use Rattle.forms.specs.Bytes.{Bytes, overwrite, window}
 use Rattle.forms.specs.Laws.BytesLaws.{length-overwrite, length-window, window-part, overwrite-fits}

@@ -1,11 +1,9 @@
 -- What holds of every one of a list, and of a list of records the one of a held counter: found, one more behind, one
 -- changed, one taken out. Assumes nothing.
-use Rattle.std.specs.Prelude.{◌≡◌, ℕ, zero, suc, ◌≤◌, min, Bool, cond, ◌&&◌, ◌||◌, eqb, set, take, drop}
-use Rattle.std.proofs.Math.Path.{refl, ap, ap₂}
-use Rattle.std.proofs.Common.{sym, subst, ◌∙◌, arith, eq-eqb, ne_eqb}
-use Rattle.std.proofs.Math.Bool.{true, false, not, or-false, or_assoc}
+use Rattle.std.specs.Prelude.{◌≡◌, ℕ, zero, suc, ◌≤◌, min, Bool, cond, ◌&&◌, ◌||◌, eqb, set, take, drop, refl, true, false, not, List, [], ◌∷◌, ◌++◌}
+use Rattle.std.proofs.Common.{sym, subst, ◌∙◌, arith, eq-eqb, ne_eqb, ap, ap₂}
+use Rattle.std.proofs.Math.Bool.{or-false, or_assoc}
 use Rattle.std.proofs.lemmas.Bool.{false≢true}
-use mathlib.Core.List.{List, [], ◌∷◌, ◌++◌}
 use Rattle.forms.specs.Terms.{same_id}
 use Rattle.forms.specs.Laws.TermsLaws.{same_id_lem, same-turned}
 use Rattle.forms.specs.declared.confirmation.Confirmation.{Confirmation}

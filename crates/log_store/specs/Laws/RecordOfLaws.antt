@@ -1,11 +1,8 @@
 -- A counter's record in records that a call has changed: where its own or another's was rewritten, where one came behind them, and where one was
 -- taken out. Assumes nothing.
-use Rattle.std.specs.Prelude.{◌≡◌, ◌||◌}
-use Rattle.std.proofs.Math.Path.{refl, sym, ap}
-use Rattle.std.proofs.Common.{◌∙◌}
-use Rattle.std.proofs.Math.Bool.{Bool, true, false, cond}
+use Rattle.std.specs.Prelude.{◌≡◌, ◌||◌, refl, Bool, true, false, cond, List, [], ◌∷◌, ◌++◌}
+use Rattle.std.proofs.Common.{◌∙◌, sym, ap}
 use Rattle.std.proofs.lemmas.Bool.{false≢true}
-use mathlib.Core.List.{List, [], ◌∷◌, ◌++◌}
 use Rattle.forms.specs.Terms.{same_id}
 use Rattle.forms.specs.Laws.TermsLaws.{same_id_lem, same-turned}
 use Rattle.forms.specs.declared.terms.CounterId.{CounterId}

@@ -1,11 +1,7 @@
 -- The stores of one record into the image of a state: written over at its counter's index, whatever the change, and put behind the others. Assumes
 -- nothing.
-use Rattle.std.specs.Prelude.{◌≡◌, Bool, true, false, ltb, length, set}
-use Rattle.std.proofs.Math.Path.{refl, ap}
-use Rattle.std.proofs.Common.{sym, subst, ◌∙◌, arith, lit<, lt-ltb}
-use Prim.Native.Nat.{ℕ, ◌+◌, ◌*◌, ◌<◌, min}
-use Rattle.std.proofs.Math.Bool.{cond}
-use mathlib.Core.List.{List, [], ◌∷◌}
+use Rattle.std.specs.Prelude.{◌≡◌, Bool, true, false, ltb, length, set, refl, ℕ, ◌+◌, ◌*◌, ◌<◌, min, cond, List, [], ◌∷◌}
+use Rattle.std.proofs.Common.{sym, subst, ◌∙◌, arith, lit<, lt-ltb, ap}
 use Rattle.forms.specs.Bytes.{Bytes, overwrite}
 use Rattle.forms.specs.Limits.{records_offset, record_len, max_counters}
 use Rattle.forms.specs.Number.{digits}

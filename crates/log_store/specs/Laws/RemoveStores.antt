@@ -1,8 +1,6 @@
 -- A counter's record taken out of the image of a state, those behind it moved down. Assumes nothing.
-use Rattle.std.specs.Prelude.{◌≡◌, ℕ, zero, suc, ◌+◌, ◌-◌, ◌*◌, ◌≤◌, ◌<◌, min, Bool, true, false, List, [], ◌∷◌, ◌++◌, length, replicate, take, drop}
-use Rattle.std.proofs.Math.Path.{refl, ap}
-use Rattle.std.proofs.Common.{sym, ap₂, ◌∙◌, arith, ltb-true}
-use Rattle.std.proofs.Math.Bool.{cond}
+use Rattle.std.specs.Prelude.{◌≡◌, ℕ, zero, suc, ◌+◌, ◌-◌, ◌*◌, ◌≤◌, ◌<◌, min, Bool, true, false, List, [], ◌∷◌, ◌++◌, length, replicate, take, drop, refl, cond}
+use Rattle.std.proofs.Common.{sym, ap₂, ◌∙◌, arith, ltb-true, ap}
 use Rattle.forms.specs.Bytes.{Bytes, window, overwrite}
 use Rattle.forms.specs.Limits.{records_offset, record_len, max_counters}
 use Rattle.forms.specs.Number.{digits}

@@ -1,8 +1,6 @@
 -- A tablet's act, from the answers of the host and of the desk that it goes by. Assumes nothing.
-use Rattle.std.specs.Prelude.{◌≡◌, Bool, true, false, cond, ℕ, length, take}
-use Rattle.std.proofs.Math.Path.{sym, ap}
-use Rattle.std.proofs.Common.{ap₂, ◌∙◌, arith, eq-eqb, ne_eqb}
-use mathlib.Core.List.{List}
+use Rattle.std.specs.Prelude.{◌≡◌, Bool, true, false, cond, ℕ, length, take, List}
+use Rattle.std.proofs.Common.{ap₂, ◌∙◌, arith, eq-eqb, ne_eqb, sym, ap}
 use Rattle.forms.specs.declared.terms.CounterId.{CounterId}
 use Rattle.validity.specs.declared.proof.Kind.{Kind}
 use Rattle.desk_table.specs.Desk.{verified}

@@ -1,12 +1,7 @@
 -- A tablet's figures of a run are how often it was answered so: none of them reaches its ceiling, since a tablet has at most one turn in a round.
 -- Assumes nothing.
-use Prim.Native.Nat.{ℕ, zero, suc, ◌+◌, ◌-◌, ◌≤◌, ◌<◌, min}
-use native.Mathlib.Omega.{arith}
-use Rattle.std.specs.Prelude.{◌≡◌, Bool, true, false, cond, ◌&&◌, length, get_or, set}
-use Rattle.std.proofs.Math.Path.{refl}
-use Rattle.std.proofs.Common.{sym, ap, ◌∙◌, true≢false, get_or-set_other, get_or-set_same, eqb-true, ne_eqb}
-use mathlib.Core.List.{List, [], ◌∷◌, ◌++◌}
-use Rattle.std.proofs.Math.Dec.{eqb}
+use Rattle.std.specs.Prelude.{◌≡◌, Bool, true, false, cond, ◌&&◌, length, get_or, set, ℕ, zero, suc, ◌+◌, ◌-◌, ◌≤◌, ◌<◌, min, refl, List, [], ◌∷◌, ◌++◌, eqb}
+use Rattle.std.proofs.Common.{sym, ap, ◌∙◌, true≢false, get_or-set_other, get_or-set_same, eqb-true, ne_eqb, arith}
 use Rattle.std.proofs.lemmas.Bool.{eqb-false}
 use Rattle.forms.specs.Limits.{max_word}
 use Rattle.tablets.specs.Act.{Acted, Renewed, acted, following, renewed, tried}

@@ -1,8 +1,8 @@
 -- Turns and rounds: a turn keeps every tablet's period, so that the turns of a run are known before it begins; a run goes on round by round, and
 -- rounds in which nobody acts are passed over. Assumes nothing.
-use Rattle.std.specs.Prelude.{◌≡◌, refl, Bool, true, false, cond, ℕ, zero, suc, ◌+◌, ◌-◌, ◌≤◌, ◌<◌, eqb, ltb, length, get_or, set, drop}
+use Rattle.std.specs.Prelude.{◌≡◌, refl, Bool, true, false, cond, ℕ, zero, suc, ◌+◌, ◌-◌, ◌≤◌, ◌<◌, eqb, ltb, length, get_or, set, drop, List, [], ◌∷◌, ◌++◌, map}
 use Rattle.std.proofs.Common.{sym, ap, ap₂, ◌∙◌, add-one, arith, ltb-true, ltb-false, drop_of_length-le, drop-cons, drop-set-lt, get_or-take}
-use mathlib.Core.List.{List, [], ◌∷◌, ◌++◌, map, foldl-append}
+use mathlib.Core.List.{foldl-append}
 use Rattle.std.proofs.Math.Seq.{map-set_same, take-set-lt}
 use Rattle.host.specs.declared.answer.Figures.{Figures}
 use Rattle.tablets.specs.Act.{Acted, acted, following}

@@ -1,7 +1,7 @@
 -- The first place of a byte, folds over bytes, and figures read, one byte after the other.
 -- Assumes nothing.
-use Rattle.std.specs.Prelude.{ℕ, suc, ◌+◌, ◌≤◌, ◌<◌, ◌≡◌, true, false, length, get_or, drop}
-use mathlib.Core.List.{List, foldl}
+use Rattle.std.specs.Prelude.{ℕ, suc, ◌+◌, ◌≤◌, ◌<◌, ◌≡◌, true, false, length, get_or, drop, List}
+use mathlib.Core.List.{foldl}
 use Rattle.std.proofs.Common.{add-one, drop_of_length-le, drop-cons, eq-eqb, ne_eqb}
 use Rattle.text.specs.Text.{FiguresRead, before, byte_read, is_digit, put_last, with_digit}
 

@@ -1,9 +1,8 @@
 -- Laws of the validity proof's form: its limits, what bytes that read as a proof are like, and its parts stored one behind the other.
 -- Assumes nothing.
-use Rattle.std.specs.Prelude.{◌≡◌, refl, ℕ, ◌+◌, ◌≤◌, Bool, true, false, not, cond, eqb, ltb, List, ◌++◌, drop}
-use Rattle.std.proofs.Common.{sym, ap, ◌∙◌, arith, lit≤, le-ltb, ltb-false, eq-eqb, eqb-true, zero-add}
+use Rattle.std.specs.Prelude.{◌≡◌, refl, ℕ, ◌+◌, ◌≤◌, Bool, true, false, not, cond, eqb, ltb, List, ◌++◌, drop, length}
+use Rattle.std.proofs.Common.{sym, ap, ◌∙◌, arith, lit≤, le-ltb, ltb-false, eq-eqb, eqb-true, zero-add, length-append}
 use Rattle.std.proofs.lemmas.Bool.{eqb-false, not-false}
-use Rattle.std.proofs.Math.ListN.{length, length-append}
 use Rattle.forms.specs.Bytes.{overwrite}
 use Rattle.forms.specs.Laws.BytesLaws.{overwrite-fits, stored_next}
 use Rattle.forms.specs.Confirmation.{confirmation_bytes}

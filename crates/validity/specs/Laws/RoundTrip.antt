@@ -18,7 +18,7 @@ use Rattle.forms.specs.Certificate.{certificate_at, certificate_bytes}
 use Rattle.forms.specs.declared.certificate.Certificate.{Certificate}
 use Rattle.forms.specs.Laws.PartsLaws.{CertificateFits, confirmation-window, certificate-window}
 use Rattle.forms.specs.Laws.TestsLaws.{both}
-use Rattle.validity.specs.Proof.{Kind, Proof, Parsed, kind_number, kind_of, known_kind, known_form, shape_at, miscounted, overcounted, log_offset, parsed, read_number, Written, written, write_number}
+use Rattle.validity.specs.Proof.{Kind, Parsed, kind_number, kind_of, known_kind, known_form, shape_at, miscounted, overcounted, log_offset, parsed, read_number, Written, written, write_number}
 use Rattle.validity.specs.Laws.ProofLaws.{LaidOut, Reads, reads-parsed, parsed-reads, count-bound, count-some, proof_len-bound}
 use Rattle.validity.specs.Proof.{Fields, read, increment, shape_of, header_of, header_bytes, proof_bytes, proof_fields, fields_of}
 

@@ -1,8 +1,8 @@
 -- An input of the bench, as bytes: a `run` too early, the start, a tablet of box 0, one of box 7, the `run`, and one too many. It has its course, and
 -- what it prints is calculated from this and from the two answers of BenchWitness.antt, with no image calculated. Assumes nothing.
-use Rattle.std.specs.Prelude.{ℕ, ◌+◌, ◌-◌, ◌<◌, ◌≡◌, refl, cond, eqb, length, get_or}
-use Rattle.std.proofs.Common.{ap, ap₂, ◌∙◌, arith}
-use mathlib.Core.List.{List, [], ◌∷◌, ◌++◌, append-nil, flatten}
+use Rattle.std.specs.Prelude.{ℕ, ◌+◌, ◌-◌, ◌<◌, ◌≡◌, refl, cond, eqb, length, get_or, List, [], ◌∷◌, ◌++◌}
+use Rattle.std.proofs.Common.{ap, ap₂, ◌∙◌, arith, append-nil}
+use mathlib.Core.List.{flatten}
 use Rattle.forms.specs.Bytes.{same}
 use Rattle.forms.specs.Terms.{counter_id, global_clock}
 use Rattle.grammar.specs.Command.{arguments_of, words}

@@ -1,8 +1,7 @@
 -- The bench's claim speaks of something, and needs what it supposes. From a start at 100, a tablet of box 7 that believes 50 is answered 22, and 0 in
 -- the next round; where another tablet of the box acts between the two, it is answered 22 again. Assumes nothing.
 use Rattle.std.specs.Prelude.{ℕ, zero, suc, ◌+◌, ◌^◌, ◌<◌, ◌≡◌, refl, List, [], ◌∷◌, length, get_or}
-use Rattle.std.proofs.Common.{sym, ◌∙◌, inl, arith, lit<, get_or-set_other}
-use Rattle.std.proofs.Math.Path.{ap}
+use Rattle.std.proofs.Common.{sym, ◌∙◌, inl, arith, lit<, get_or-set_other, ap}
 use Rattle.forms.specs.Entry.{units}
 use Rattle.forms.specs.Terms.{counter_id, global_clock}
 use Rattle.forms.specs.declared.terms.GlobalClock.{GlobalClock}

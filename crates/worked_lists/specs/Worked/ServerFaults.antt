@@ -25,7 +25,7 @@ use Rattle.worked_lists.specs.Worked.HostListWitness.{byte_nonce, nonce-bytes, b
 use Rattle.assurance.specs.Laws.HostSteps.{start-stores, start-steps}
 use Rattle.worked_lists.specs.Worked.Places.{IsImageOf, Done, begun-image, signed, confirmed-fits, opening, raises, proves, lasts, confirms}
 use Rattle.assurance.specs.Laws.ServerAlong.{◌and◌, AlongBut, honest-but, typed-along}
-use Rattle.worked_lists.specs.Worked.ServerFaulty.{Faulty, all-signed, any-signed, asks, asks-fit, behind-start, each_first, entry-borne, handed-from, handed-last, last-faulty, last-is, last-writes, lasting, not-asked, not_made, nothing-asked, opened-writes, owed, owed-asks, paid-asks, passed, proving, raise, signed-asks}
+use Rattle.worked_lists.specs.Worked.ServerFaulty.{Faulty, all-signed, any-signed, asks, asks-fit, behind-start, each_first, entry-borne, handed-from, handed-last, last-faulty, last-is, last-writes, lasting, not-asked, not_made, nothing-asked, opened-writes, owed, owed-asks, paid-asks, proving, raise, signed-asks}
 use Rattle.assurance.specs.ServerList.{ServerItem, host, beside, desk_list, host_list, image_after, owing, handed_last, Paid, SeenTo, Writes}
 use Rattle.assurance.specs.Laws.ServerNeeds.{confirmation-needed, entries-needed, prove-needs, last-needs}
 use Rattle.assurance.specs.Laws.ServerWritten.{Written, prove-written, last_written}

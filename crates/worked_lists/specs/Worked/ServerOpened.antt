@@ -1,12 +1,9 @@
 -- A counter that is not opened truly: two lists along which the server is honest, while the value that the desk shows is not the history's. In one, 7 has
 -- two openings. In the other all that demand 3 supposes of 7 holds, but two requests have one digest, and 7 is opened late, by a confirmation made from a
 -- proof that somebody else wrote with the wrong one of them. So what demand 3 supposes is not enough. Assumes nothing.
-use Rattle.std.specs.Prelude.{ℕ, ◌*◌, ◌/◌, ◌%◌, ◌<◌, ◌≡◌, Bool, true, not, cond, ◌&&◌, ◌||◌, eqb, ltb, length}
-use Rattle.std.proofs.Math.Path.{refl, ap, subst}
-use Rattle.std.proofs.Common.{sym, ap₂, ◌∙◌, arith}
-use mathlib.Core.List.{List, [], ◌∷◌, ◌++◌}
+use Rattle.std.specs.Prelude.{ℕ, ◌*◌, ◌/◌, ◌%◌, ◌<◌, ◌≡◌, Bool, true, not, cond, ◌&&◌, ◌||◌, eqb, ltb, length, refl, List, [], ◌∷◌, ◌++◌}
+use Rattle.std.proofs.Common.{sym, ap₂, ◌∙◌, arith, ap, subst, lit<, lit≤}
 use Rattle.std.proofs.Math.Option.{some}
-use Rattle.std.proofs.Math.Dec.{lit<, lit≤}
 use Rattle.forms.specs.Bytes.{Bytes}
 use Rattle.forms.specs.Laws.BytesLaws.{same_refl}
 use Rattle.forms.specs.Chain.{passes, step, follows, running_after, chains, own_entries}

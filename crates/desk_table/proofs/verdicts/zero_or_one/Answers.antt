@@ -1,12 +1,12 @@
 -- `desk_table::verdicts::zero_or_one` meets its contract: no byte passed is over 1, or one was and the answer stands. Assumes nothing.
 use mathlib.Core.Path.{refl, sym, ◌∙◌}
-use mathlib.Core.Logic.{◌⊎◌, inl, inr, ⊎_elim}
-use Prim.Native.Nat.{◌-◌}
+use mathlib.Core.Logic.{inl, inr, ⊎_elim}
 use native.Mathlib.Omega.{arith}
 use borrow.Author.Rules.{rules}
 use borrow.Author.Count.{below_more}
 use Rattle.desk_table.specs.Laws.VerdictsLaws.{zero-or-one-yes, zero-or-one-no}
 use Rattle.desk_table.proofs.verdicts.zero_or_one.Goals as goal
+use Rattle.desk_table.proofs.verdicts.zero_or_one.Goals.{then-verdicts-i-gt1, else-verdicts-i-gt1}
 
 pub loop-i-init : goal.loop-i-init
 loop-i-init c = (search rules, inl (refl, λ k h. omega arith))
@@ -15,10 +15,12 @@ pub loop-i-preserved : goal.loop-i-preserved
 loop-i-preserved c =
     let turn = c.loop-i in (
       search rules,
-      ⊎_elim
-          (λ w. inr (w.1, zero-or-one-no _ turn.i w.0.taken))
-          (λ w. ⊎_elim (λ all. inl (w.1 ∙ all.0, below_more _ _ all.1 w.0.left)) (λ some. inr (w.1 ∙ some.0, some.1)) turn.invariant.1)
-          c.if-verdicts-i-gt1.branch,
+      elim c.if-verdicts-i-gt1.branch [
+        | then-verdicts-i-gt1 w ↦ inr (w.fine-is, zero-or-one-no _ turn.i w.if-verdicts-i-gt1.true)
+        | else-verdicts-i-gt1 w ↦
+            ⊎_elim (λ all. inl (w.fine-is ∙ all.0, below_more _ _ all.1 w.if-verdicts-i-gt1.false)) (λ some. inr (w.fine-is ∙ some.0, some.1))
+            turn.invariant.1
+      ],
     )
 
 pub returns : goal.returns
