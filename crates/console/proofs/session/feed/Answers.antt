@@ -1,0 +1,38 @@
+-- `console::session::feed` meets its contract: after i turns the session stands where i bytes of the part leave it. Assumes nothing.
+use mathlib.Core.Path.{refl, ◌∙◌}
+use Prim.Native.Nat.{◌-◌, zero-le}
+use native.Mathlib.Omega.{arith}
+use borrow.Author.Rules.{rules}
+use lib.ListN.{length}
+use Rattle.console.specs.Lines.{pending_of}
+use Rattle.console.specs.Laws.LinesLaws.{fed-none, fed-all, feeding-more, feeding-all, printed-at}
+use Rattle.console.specs.Session.{line_answered}
+use Rattle.console.specs.Laws.SessionLaws.{line-short}
+use Rattle.console.specs.Step.{max_answer}
+use Rattle.console.proofs.session.feed.Goals as goal
+
+pub returns-then-text-part : goal.returns-then-text-part
+returns-then-text-part c =
+    let a = c.args in
+    printed-at a.line 0 a.image.now a.text.now a.text.now
+    (fed-none line_answered max_answer a.line a.image.now a.part.now (length a.text.now) c.if-text-part.true) zero-le refl
+
+pub loop-i-init : goal.loop-i-init
+loop-i-init c = (refl, record { inside = search rules; room = omega arith; to-come = refl; behind = refl; same_length = refl })
+
+pub take_byte-fed-requires : goal.take_byte-fed-requires
+take_byte-fed-requires c = omega arith
+
+pub loop-i-preserved : goal.loop-i-preserved
+loop-i-preserved c =
+    (
+      c.take_byte-fed.auto.image ∙ c.loop-i.invariant.0,
+      feeding-more c.loop-i.invariant.1 c.loop-i-test.true
+          (line-short c.loop-i.image (pending_of c.loop-i.fed.line)) c.take_byte-fed.ensures,
+    )
+
+pub returns : goal.returns
+returns c =
+    let a = c.args in
+    let all = fed-all line_answered max_answer a.line a.image.now a.part.now (length a.text.now) c.if-text-part.false in
+    feeding-all all c.loop-i.invariant.1 c.loop-i-test.false

@@ -1,0 +1,7 @@
+-- `console::step::show_read` meets its contract. Assumes nothing.
+use mathlib.Core.Path.{ap}
+use Rattle.console.specs.Step.{read_figures}
+use Rattle.console.proofs.step.show_read.Goals as goal
+
+pub returns : goal.returns
+returns c = ap read_figures c.read-shown.ensures
