@@ -6,25 +6,45 @@
 // - month: a month of thirty-two tablets.
 #![tactic(auto)]
 
-use libc::STDOUT_FILENO;
+use std::env::FillError;
+use std::rt::{Env, Files};
+use std::{fs, io, str};
 
-// Runs the bench on the input that the argument at a place names. One that is missing, or longer than the buffer, is an empty name, which no file has.
-fn take_input(place: usize) {
-    let mut name = io::buffer();
-    let len = os::arg(place, &mut name);
-    io::write_all(STDOUT_FILENO, &name[..len]);
-    io::write_all(STDOUT_FILENO, b"\n");
-    let input = os::open_read(&name[..len]);
-    if input < 0 {
-        io::write_all(STDOUT_FILENO, b"can't be opened\n");
-        return;
+// Room for the name of an input.
+const NAME: usize = 4096;
+
+const CLOSED: &[u8] = b"can't be opened\n";
+
+// Runs the bench on the input of a name. A file's name is text: one that is not can't be opened.
+fn take_input(rt: &(impl Files + Print), name: &[u8]) -> io::Result<()> {
+    rt.write_all(name)?;
+    rt.write_all(b"\n")?;
+    let Ok(path) = str::from_utf8(name) else {
+        return rt.write_all(CLOSED);
+    };
+    match fs::open(rt, path) {
+        Ok(mut input) => bench::run::run(&mut input, &mut io::writer(rt)),
+        Err(_) => rt.write_all(CLOSED),
     }
-    bench::run::run(input);
-    libc::close(input);
 }
 
-fn main() {
-    for place in 1..os::arg_count() {
-        take_input(place);
+// Takes the input that the argument at a place names, and answers whether there is one. One that is longer than the buffer is an empty name, which no
+// file has.
+fn take_argument(rt: &(impl Env + Files + Print), place: usize) -> io::Result<bool> {
+    let mut name = [0u8; NAME];
+    match rt.arg(place, &mut name) {
+        Ok(len) => take_input(rt, &name[..len])?,
+        Err(FillError::TooLong) => take_input(rt, b"")?,
+        Err(FillError::NotPresent) => return Ok(false),
     }
+    Ok(true)
+}
+
+fn main(rt: HostRuntime) -> io::Result<()> {
+    for place in 1..usize::MAX {
+        if !take_argument(&rt, place)? {
+            break;
+        }
+    }
+    Ok(())
 }

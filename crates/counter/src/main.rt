@@ -1,6 +1,8 @@
 // The program: document 01, "The program". Reads lines from standard input and prints number and value of each.
 #![tactic(auto)]
 
-fn main() {
-    console::run::run(libc::STDIN_FILENO);
+use std::io;
+
+fn main(rt: HostRuntime) -> io::Result<()> {
+    console::run::run(&mut rt.stdin(), &mut io::writer(&rt))
 }

@@ -2,6 +2,8 @@
 // prints for each tablet how many raises it made and how often it was told 22 and 24.
 #![tactic(auto)]
 
-fn main() {
-    bench::run::run(libc::STDIN_FILENO);
+use std::io;
+
+fn main(rt: HostRuntime) -> io::Result<()> {
+    bench::run::run(&mut rt.stdin(), &mut io::writer(&rt))
 }

@@ -11,7 +11,7 @@ use forms::entry::Head;
 use forms::nonce::LEN;
 use forms::number::{put_u16, put_u32};
 use forms::terms::{CounterId, GlobalClock};
-use libc::STDOUT_FILENO;
+use std::io;
 use text::line::{put_filled, put_words};
 use text::part::front;
 use validity::proof::Proof;
@@ -49,7 +49,7 @@ fn put_verdicts(digits: &[u8], verdicts: &mut [u8]) {
     }
 }
 
-fn print(label: &[u8], shown: Figures) {
+fn print(rt: &impl Print, label: &[u8], shown: Figures) -> io::Result<()> {
     let mut line = [0u8; LINE_ROOM];
     let figures = [
         shown.number,
@@ -60,7 +60,7 @@ fn print(label: &[u8], shown: Figures) {
     ];
     let mut end = put_words(&mut line, 0, label);
     end = put_filled(&mut line, end, b":#####\n", &figures);
-    io::write_all(STDOUT_FILENO, front(&line, end));
+    rt.write_all(front(&line, end))
 }
 
 // Where the clock certificate and the log stand, by the kind.
@@ -133,27 +133,42 @@ fn lent_of(case: Case, len: usize) -> usize {
 }
 
 // The desk's answer to the case with entries, the changes behind its figures and verdicts.
-pub(crate) fn judged(label: &[u8], case: Case, entries: &[u8], figures: &[u32], verdicts: &[u8]) {
+pub(crate) fn judged(
+    rt: &impl Print,
+    label: &[u8],
+    case: Case,
+    entries: &[u8],
+    figures: &[u32],
+    verdicts: &[u8],
+) -> io::Result<()> {
     let mut proof = [0u8; PROOF_ROOM];
     let mut nonce = [(case.nonce % 256) as u8; NONCE_ROOM];
     let len = put_proof(case, entries, &mut proof);
     change_all(figures, &mut proof, &mut nonce);
     let lent = front(&proof, lent_of(case, len));
     let wanted = front(&nonce, case.nonce_len as usize);
-    print(label, vmc_desk_verify(lent, verdicts, case.id, wanted));
+    print(rt, label, vmc_desk_verify(lent, verdicts, case.id, wanted))
 }
 
 // The same with the figures of a log and the digits of verdicts.
-pub(crate) fn case(label: &[u8], case: Case, log: &[u32], figures: &[u32], digits: &[u8]) {
+pub(crate) fn case(
+    rt: &impl Print,
+    label: &[u8],
+    case: Case,
+    log: &[u32],
+    figures: &[u32],
+    digits: &[u8],
+) -> io::Result<()> {
     let mut entries = [0u8; ENTRIES_ROOM];
     let mut verdicts = [0u8; VERDICTS_ROOM];
     let len = put_log(&mut entries, log);
     put_verdicts(digits, &mut verdicts);
     judged(
+        rt,
         label,
         case,
         front(&entries, len),
         figures,
         front(&verdicts, digits.len()),
-    );
+    )
 }

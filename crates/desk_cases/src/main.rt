@@ -8,11 +8,15 @@ mod log;
 mod long;
 mod table;
 
-use libc::STDIN_FILENO;
+use std::io;
+use std::io::Read;
 
-fn main() {
-    let mut text = io::large_buffer();
-    let len = io::read_full(STDIN_FILENO, &mut text);
-    table::run(&text[..len]);
-    long::run();
+// The most bytes of the input that are read.
+const INPUT: u64 = 65536;
+
+fn main(rt: HostRuntime) -> io::Result<()> {
+    let mut text = Vec::new(rt.alloc());
+    rt.stdin().take(INPUT).read_to_end(&mut text)?;
+    table::run(&rt, &text)?;
+    long::run(&rt)
 }

@@ -7,17 +7,22 @@ mod show;
 
 use message::{counted, eight, three, two};
 use show::{show, show_lengths};
+use std::io;
 
-fn main() {
-    show(b"");
-    show(b"abc");
-    show(b"abcdbcdecdefdefgefghfghighijhijkijkljklmklmnlmnomnopnopq");
+fn main(rt: HostRuntime) -> io::Result<()> {
+    show(&rt, b"")?;
+    show(&rt, b"abc")?;
     show(
+        &rt,
+        b"abcdbcdecdefdefgefghfghighijhijkijkljklmklmnlmnomnopnopq",
+    )?;
+    show(
+        &rt,
         b"abcdefghbcdefghicdefghijdefghijkefghijklfghijklmghijklmnhijklmnoijklmnopjklmnopqklmnopqrlmnopqrsmnopqrstnopqrstu",
-    );
-    show(&[b'a'; 10000]);
-    show_lengths(&counted(), 1);
-    show_lengths(&two(), 28);
-    show_lengths(&three(), 28);
-    show_lengths(&eight(), 28);
+    )?;
+    show(&rt, &[b'a'; 10000])?;
+    show_lengths(&rt, &counted(), 1)?;
+    show_lengths(&rt, &two(), 28)?;
+    show_lengths(&rt, &three(), 28)?;
+    show_lengths(&rt, &eight(), 28)
 }

@@ -2,7 +2,7 @@
 ghost use Rattle.std.specs.Prelude.{◌<◌};
 
 use digest::sha1::sha1;
-use libc::STDOUT_FILENO;
+use std::io;
 use text::part::front;
 
 const LEN: usize = 20;
@@ -16,7 +16,7 @@ fn hex_digit(n: u8) -> u8 {
     }
 }
 
-pub(crate) fn show(message: &[u8]) {
+pub(crate) fn show(rt: &impl Print, message: &[u8]) -> io::Result<()> {
     let digest = sha1(message);
     let mut line = [b'\n'; 2 * LEN + 1];
     let mut i: usize = 0;
@@ -25,16 +25,17 @@ pub(crate) fn show(message: &[u8]) {
         line[2 * i + 1] = hex_digit(digest[i]);
         i += 1;
     }
-    io::write_all(STDOUT_FILENO, &line);
+    rt.write_all(&line)
 }
 
 // The digests of the first bytes of a message, from none to all by steps.
-pub(crate) fn show_lengths(message: &[u8], step: usize)
+pub(crate) fn show_lengths(rt: &impl Print, message: &[u8], step: usize) -> io::Result<()>
     requires { (0 < step) × (step < 1000) }
 {
     let mut i: usize = 0;
     while i <= message.len() {
-        show(front(message, i));
+        show(rt, front(message, i))?;
         i += step;
     }
+    Ok(())
 }

@@ -12,16 +12,21 @@ mod sample;
 mod sweep;
 mod table;
 
-use libc::{STDIN_FILENO, STDOUT_FILENO};
+use std::io;
+use std::io::Read;
 
-fn main() {
-    let mut text = io::large_buffer();
-    let len = io::read_full(STDIN_FILENO, &mut text);
+// The most bytes of the input that are read.
+const INPUT: usize = 65536;
+
+fn main(rt: HostRuntime) -> io::Result<()> {
+    let mut text = Vec::new(rt.alloc());
+    rt.stdin().take(INPUT as u64).read_to_end(&mut text)?;
     let mut entries = [0u8; sample::ENTRIES_ROOM];
     sample::fill(&mut entries);
-    table::run(&text[..len], &entries);
+    table::run(&rt, &text, &entries)?;
     // Where the input fills its room there may be more of it.
-    if text.len() <= len {
-        io::write_all(STDOUT_FILENO, b"no room for all cases\n");
+    if INPUT <= text.len() {
+        rt.write_all(b"no room for all cases\n")?;
     }
+    Ok(())
 }

@@ -4,13 +4,16 @@
 // says what the lines below it try.
 use crate::{counts, damage, nonces, refusal, roundtrip, sweep};
 use forms::bytes::byte_at;
-use libc::STDOUT_FILENO;
+use std::io;
 use text::figures::read_figures;
 use text::line::put_filled;
 use text::part::{between, find, front};
 
 // The most figures of a line.
 pub const FIGURES: usize = 11;
+
+// Room for what a case prints.
+const TEXT: usize = 4096;
 
 // So many of the bytes from a place on; none where they are not there.
 pub(crate) fn part(s: &[u8], place: u32, len: u32) -> &[u8] {
@@ -62,14 +65,14 @@ fn put_case(
 }
 
 // Prints the words with the figures of a line in them, and runs the line's case.
-fn row(words: &[u8], line: &[u8], entries: &[u8]) {
+fn row(rt: &impl Print, words: &[u8], line: &[u8], entries: &[u8]) -> io::Result<()> {
     let word = byte_at(line, 0);
     if word < b'a' {
-        return;
+        return Ok(());
     }
     let mut figures = [0u32; FIGURES];
     let count = read(line, &mut figures);
-    let mut text = io::buffer();
+    let mut text = [0u8; TEXT];
     let mut end = put_filled(
         &mut text,
         0,
@@ -77,10 +80,10 @@ fn row(words: &[u8], line: &[u8], entries: &[u8]) {
         first(&figures, count),
     );
     end = put_case(&mut text, end, word, figures, count, entries);
-    io::write_all(STDOUT_FILENO, front(&text, end));
+    rt.write_all(front(&text, end))
 }
 
-pub(crate) fn run(text: &[u8], entries: &[u8]) {
+pub(crate) fn run(rt: &impl Print, text: &[u8], entries: &[u8]) -> io::Result<()> {
     let mut words: usize = 0;
     let mut from: usize = 0;
     while from < text.len() {
@@ -89,10 +92,12 @@ pub(crate) fn run(text: &[u8], entries: &[u8]) {
             words = from;
         }
         row(
+            rt,
             between(text, words, find(text, words, b'\n')),
             between(text, from, end),
             entries,
-        );
+        )?;
         from = end + 1;
     }
+    Ok(())
 }

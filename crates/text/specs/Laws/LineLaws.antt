@@ -27,7 +27,8 @@ pub nothing_stored : (text : List ℕ) (at : ℕ) (v : List ℕ) → length text
 nothing_stored text at v over = (sym (stored-out text at v over), sym (overwrite-out text at v over))
 
 -- what was put is the same bytes by another name
-pub put_same : (text : List ℕ) (at : ℕ) (v w : List ℕ) {end : ℕ} {after : List ℕ} → v ≡ w → (end ≡ stored_end text at v) × (after ≡ overwrite text at v)
+pub put_same : (text : List ℕ) (at : ℕ) (v w : List ℕ) {end : ℕ} {after : List ℕ} → v ≡ w
+    → (end ≡ stored_end text at v) × (after ≡ overwrite text at v)
     → (end ≡ stored_end text at w) × (after ≡ overwrite text at w)
 put_same text at v w same put = (put.0 ∙ ap (stored_end text at) same, put.1 ∙ ap (overwrite text at) same)
 

@@ -11,7 +11,8 @@ pub found_here : (byte : ℕ) (s : List ℕ) (i : ℕ) → i < length s → get_
 unfolding before
 found_here byte s i within e = rw (drop-cons s i 0, eq-eqb (get_or s i 0) byte)
 
-pub found-later : (byte : ℕ) (s : List ℕ) (i : ℕ) → i < length s → (get_or s i 0 ≡ byte → ⊥) → before byte (drop i s) ≡ suc (before byte (drop (i + 1) s))
+pub found-later : (byte : ℕ) (s : List ℕ) (i : ℕ) → i < length s → (get_or s i 0 ≡ byte → ⊥)
+    → before byte (drop i s) ≡ suc (before byte (drop (i + 1) s))
 unfolding before
 found-later byte s i within e = rw (add-one, drop-cons s i 0, ne_eqb (get_or s i 0) byte)
 
@@ -36,6 +37,6 @@ pub digit-read : (f : FiguresRead) (b : ℕ) {count figure : ℕ} {stored : List
     → stored ≡ put_last f.stored f.count figure → byte_read f b ≡ record { count = count; figure = figure; stored = stored }
 digit-read f b digit c e s = rw digit (cc)
 
-pub next-read : (f : FiguresRead) (b : ℕ) {count figure : ℕ} {stored : List ℕ} → is_digit b ≡ false → count ≡ f.count + 1 → figure ≡ 0 → stored ≡ f.stored
-    → byte_read f b ≡ record { count = count; figure = figure; stored = stored }
+pub next-read : (f : FiguresRead) (b : ℕ) {count figure : ℕ} {stored : List ℕ} → is_digit b ≡ false → count ≡ f.count + 1 → figure ≡ 0
+    → stored ≡ f.stored → byte_read f b ≡ record { count = count; figure = figure; stored = stored }
 next-read f b other c e s = rw other (cc)
