@@ -1,8 +1,5 @@
 -- `desk::verify::bad_confirmation` meets its contract. Assumes nothing.
-use mathlib.Core.Path.{sym, ap}
-use mathlib.Core.Bool.{Bool, not, ◌||◌}
-use borrow.Author.Tests.{eq-eqb, ne_eqb}
-use lib.Dec.{ltb}
+use Rattle.std.proofs.Common.{sym, ap, Bool, not, ◌||◌, eq-eqb, ne_eqb, ltb}
 use Rattle.desk_table.specs.Desk.{bad_confirmation}
 use Rattle.desk.proofs.verify.bad_confirmation.Goals as goal
 

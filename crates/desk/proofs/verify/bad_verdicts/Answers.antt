@@ -1,8 +1,5 @@
 -- `desk::verify::bad_verdicts` meets its contract: the proof's length gives the count that is asked for. Assumes nothing.
-use mathlib.Core.Path.{◌≡◌, sym, ap, ◌∙◌}
-use mathlib.Core.Bool.{Bool, not, ◌||◌}
-use borrow.Author.Tests.{eq-eqb, ne_eqb}
-use lib.ListN.{length}
+use Rattle.std.proofs.Common.{◌≡◌, sym, ap, ◌∙◌, Bool, not, ◌||◌, eq-eqb, ne_eqb, length}
 use Rattle.desk_table.specs.Desk.{verdict_count, zero_or_one, bad_verdicts}
 use Rattle.desk.specs.Laws.LogVerdictsLaws.{verdicts-counted}
 use Rattle.desk.proofs.verify.bad_verdicts.Goals as goal

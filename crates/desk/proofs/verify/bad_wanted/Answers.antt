@@ -1,9 +1,5 @@
 -- `desk::verify::bad_wanted` meets its contract. Assumes nothing.
-use mathlib.Core.Path.{sym, ap}
-use mathlib.Core.Bool.{Bool, not, ◌||◌}
-use borrow.Author.Tests.{eq-eqb, ne_eqb}
-use lib.Dec.{eqb}
-use lib.ListN.{length}
+use Rattle.std.proofs.Common.{sym, ap, Bool, not, ◌||◌, eq-eqb, ne_eqb, eqb, length}
 use Rattle.forms.specs.Limits.{nonce_len}
 use Rattle.desk_table.specs.Desk.{bad_wanted}
 use Rattle.desk.proofs.verify.bad_wanted.Goals as goal

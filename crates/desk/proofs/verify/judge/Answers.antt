@@ -1,7 +1,6 @@
 -- `desk::verify::judge` meets its contract: at each return the rows before were passed over, and this one gives the answer. `rest-k` says
 -- what is left of the table once k rows have been passed over, each from the one before. Assumes nothing.
-use Rattle.std.proofs.Common.{◌≡◌, refl, sym, ap, ap₂, ◌∙◌, subst, true, false, not, ℕ, ◌≤◌, List, length, drop, eqb, arith}
-use borrow.Author.Tests.{eq-eqb, ne_eqb}
+use Rattle.std.proofs.Common.{◌≡◌, refl, sym, ap, ap₂, ◌∙◌, subst, true, false, not, ℕ, ◌≤◌, List, length, drop, eqb, arith, eq-eqb, ne_eqb}
 use Rattle.forms.specs.Checks.{first_answer}
 use Rattle.forms.specs.Laws.ChecksLaws.{passed, given}
 use Rattle.forms.specs.Limits.{max_units}

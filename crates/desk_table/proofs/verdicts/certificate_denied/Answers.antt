@@ -1,7 +1,5 @@
 -- `desk_table::verdicts::certificate_denied` meets its contract, by the kind. Assumes nothing.
-use mathlib.Core.Path.{sym, ap, ◌∙◌}
-use Prim.Native.Nat.{ℕ}
-use lib.Dec.{eqb}
+use Rattle.std.proofs.Common.{sym, ap, ◌∙◌, ℕ, eqb}
 use Rattle.validity.specs.declared.proof.Kind.{Kind}
 use Rattle.desk_table.specs.Desk.{certificate_denied}
 use Rattle.desk_table.proofs.verdicts.certificate_denied.Goals as goal

@@ -1,5 +1,5 @@
 -- `desk_table::answer::Answer::figures` meets its contract, by the two answers. Assumes nothing.
-use mathlib.Core.Path.{sym, ap}
+use Rattle.std.proofs.Common.{sym, ap}
 use Rattle.desk_table.specs.Answer.{figures}
 use Rattle.desk_table.proofs.answer.Answer.figures.Goals as goal
 
