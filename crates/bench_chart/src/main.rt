@@ -11,13 +11,14 @@ use bench::session::feed;
 use console::session::{Line, MAX_LINE};
 use forms::image::Image;
 use grammar::order::{Order, read_order};
-use libc::{STDIN_FILENO, STDOUT_FILENO};
 use log_image::header::entry_count;
+use std::io;
+use std::io::Read;
 use tablets::rounds::{Fleet, run};
 use text::line::{put_figure, put_numeral, put_words};
 use text::part::{between, find, front};
 
-const INPUT: usize = 4096;
+const INPUT: u64 = 4096;
 
 const ROWS: u32 = 30;
 
@@ -29,7 +30,7 @@ const ROW: usize = 96;
 // Room for what a line that sets the run up could print.
 const TEXT: usize = (MAX_LINE + 1) * MAX_RESULT;
 
-fn print_row(round: u32, held: u32) {
+fn print_row(rt: &impl Print, round: u32, held: u32) -> io::Result<()> {
     let bar = [b'#'; 64];
     let mut text = [0u8; ROW];
     let round_end = put_numeral(&mut text, 0, round);
@@ -37,7 +38,7 @@ fn print_row(round: u32, held: u32) {
     let space_end = put_words(&mut text, held_end, b" ");
     let bar_end = put_words(&mut text, space_end, front(&bar, (held / MARK) as usize));
     let end = put_words(&mut text, bar_end, b"\n");
-    io::write_all(STDOUT_FILENO, front(&text, end));
+    rt.write_all(front(&text, end))
 }
 
 // How many rounds a row has; the last one may have fewer.
@@ -61,40 +62,41 @@ fn row_end(done: u32, rounds: u32, length: u32) -> u32
     rounds
 }
 
-fn draw(image: &mut [u8], mut fleet: Fleet, rounds: u32) {
+fn draw(rt: &impl Print, image: &mut [u8], mut fleet: Fleet, rounds: u32) -> io::Result<()> {
     let length = row_length(rounds);
     let mut done: u32 = 0;
     while done < rounds {
         let end = row_end(done, rounds, length);
         fleet = run(image, fleet, done, end);
-        print_row(end, entry_count(image));
+        print_row(rt, end, entry_count(image))?;
         done = end;
     }
+    Ok(())
 }
 
 // The bench behind a line.
-fn take_line(line: &[u8], bench: Bench, image: &mut [u8]) -> Bench {
+fn take_line(rt: &impl Print, line: &[u8], bench: Bench, image: &mut [u8]) -> io::Result<Bench> {
     if MAX_LINE < line.len() {
-        return bench;
+        return Ok(bench);
     }
     let stage = bench.stage;
     let fleet = bench.fleet;
     let order = read_order(line);
     match order {
         Order::Run(rounds) => match stage {
-            Stage::New => bench,
+            Stage::New => Ok(bench),
             Stage::Started(_) => {
-                draw(image, fleet, rounds);
-                Bench {
+                draw(rt, image, fleet, rounds)?;
+                Ok(Bench {
                     stage: Stage::Ran,
                     fleet,
-                }
+                })
             }
-            Stage::Ran => bench,
+            Stage::Ran => Ok(bench),
         },
-        Order::Start(_) => set_up(line, bench, image),
-        Order::Tablet(_, _, _) => set_up(line, bench, image),
-        Order::Other => bench,
+        Order::Start(_) => Ok(set_up(line, bench, image)),
+        Order::Tablet(_, _, _) => Ok(set_up(line, bench, image)),
+        Order::Other => Ok(bench),
     }
 }
 
@@ -108,19 +110,20 @@ fn set_up(line: &[u8], bench: Bench, image: &mut [u8]) -> Bench {
     after.bench
 }
 
-fn take_lines(input: &[u8], image: &mut [u8]) {
+fn take_lines(rt: &impl Print, input: &[u8], image: &mut [u8]) -> io::Result<()> {
     let mut bench = Bench::new();
     let mut from = 0;
     while from < input.len() {
         let end = find(input, from, b'\n');
-        bench = take_line(between(input, from, end), bench, image);
+        bench = take_line(rt, between(input, from, end), bench, image)?;
         from = end + 1;
     }
+    Ok(())
 }
 
-fn main() {
-    let mut input = [0u8; INPUT];
-    let len = io::read_full(STDIN_FILENO, &mut input);
+fn main(rt: HostRuntime) -> io::Result<()> {
+    let mut input = Vec::new(rt.alloc());
+    rt.stdin().take(INPUT).read_to_end(&mut input)?;
     let mut image = [0u8; Image::LEN];
-    take_lines(front(&input, len), &mut image);
+    take_lines(&rt, &input, &mut image)
 }

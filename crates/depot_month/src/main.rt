@@ -22,25 +22,27 @@ mod tally;
 use forms::image::Image;
 use forms::terms::GlobalClock;
 use host::start::start;
+use std::io;
 
-fn days(image: &mut [u8], books: &mut [u8]) {
+fn days(rt: &impl Print, image: &mut [u8], books: &mut [u8]) -> io::Result<()> {
     let mut x = plan::SEED;
     let mut day: u32 = 1;
     while day <= plan::DAYS {
         x = day::run(day, x, image, books);
-        report::day(day, image, books);
+        report::day(rt, day, image, books)?;
         day += 1;
     }
+    Ok(())
 }
 
-fn run(image: &mut [u8], books: &mut [u8]) {
+fn run(rt: &impl Print, image: &mut [u8], books: &mut [u8]) -> io::Result<()> {
     tally::set(books, tally::SUM, 1);
     module::start(books);
     let figures = start(image, GlobalClock(plan::FIRST_READING));
     tally::answered(books, image, figures);
-    days(image, books);
+    days(rt, image, books)?;
     invoice::in_records(image, books);
-    report::month(image, books);
+    report::month(rt, image, books)
 }
 
 // Books with nothing in them.
@@ -48,8 +50,8 @@ fn blank() -> [u8; tally::END] {
     [0u8; tally::END]
 }
 
-fn main() {
+fn main(rt: HostRuntime) -> io::Result<()> {
     let mut image = [0u8; Image::LEN];
     let mut books = blank();
-    run(&mut image, &mut books);
+    run(&rt, &mut image, &mut books)
 }

@@ -3,7 +3,7 @@
 use crate::call::{Answer, Call};
 use crate::crc::{crc32, put_hex};
 use crate::{call, judge};
-use libc::STDOUT_FILENO;
+use std::io;
 use text::line::{put_figure, put_filled, put_words};
 use text::part::{between, find, front, least};
 use validity::proof::Proof;
@@ -12,9 +12,9 @@ use validity::proof::Proof;
 pub const LINE_ROOM: usize = 512;
 
 // Writes the first bytes of a line, and a newline behind them.
-pub(crate) fn print_line(line: &mut [u8], len: usize) {
+pub(crate) fn print_line(rt: &impl Print, line: &mut [u8], len: usize) -> io::Result<()> {
     let end = put_words(line, len, b"\n");
-    io::write_all(STDOUT_FILENO, front(line, end));
+    rt.write_all(front(line, end))
 }
 
 // Number and value; for read the openings, and for a batch each request's own number.
@@ -58,25 +58,38 @@ fn put_proof(line: &mut [u8], at: usize, call: Call, len: u32, proof: &[u8]) -> 
     put_filled(line, end, b" desk#####", &figures)
 }
 
-fn print_answer(text: &[u8], call: Call, shown: Answer, image: &[u8], out: &[u8]) {
+fn print_answer(
+    rt: &impl Print,
+    text: &[u8],
+    call: Call,
+    shown: Answer,
+    image: &[u8],
+    out: &[u8],
+) -> io::Result<()> {
     let mut line = [0u8; LINE_ROOM];
     let proof = front(out, proof_len(call.word, shown.value));
     let mut end = put_words(&mut line, 0, between(text, 0, find(text, 0, b'=')));
     end = put_figures(&mut line, end, call.word, shown);
     end = put_crc(&mut line, end, b" image ", image);
     end = put_proof(&mut line, end, call, shown.value, proof);
-    print_line(&mut line, end);
+    print_line(rt, &mut line, end)
 }
 
 // The call gets the first bytes of the image.
-fn print_call(text: &[u8], lent: usize, image: &mut [u8], out: &mut [u8]) {
+fn print_call(
+    rt: &impl Print,
+    text: &[u8],
+    lent: usize,
+    image: &mut [u8],
+    out: &mut [u8],
+) -> io::Result<()> {
     let call = Call::of(text);
     let end = least(lent, image.len());
     let shown = call::made(call, &mut image[0..end], out);
-    print_answer(text, call, shown, image, out);
+    print_answer(rt, text, call, shown, image, out)
 }
 
-pub(crate) fn print(text: &[u8], lent: usize, image: &mut [u8]) {
+pub(crate) fn print(rt: &impl Print, text: &[u8], lent: usize, image: &mut [u8]) -> io::Result<()> {
     let mut out = [0u8; Proof::MAX_LEN];
-    print_call(text, lent, image, &mut out);
+    print_call(rt, text, lent, image, &mut out)
 }

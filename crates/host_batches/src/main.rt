@@ -10,12 +10,16 @@ mod judge;
 mod table;
 
 use forms::image::Image;
-use libc::STDIN_FILENO;
+use std::io;
+use std::io::Read;
 
-fn main() {
-    let mut text = io::large_buffer();
-    let len = io::read_full(STDIN_FILENO, &mut text);
+// The most bytes of the input that are read.
+const INPUT: u64 = 65536;
+
+fn main(rt: HostRuntime) -> io::Result<()> {
+    let mut text = Vec::new(rt.alloc());
+    rt.stdin().take(INPUT).read_to_end(&mut text)?;
     let mut image = [0u8; Image::LEN];
     let mut kept = [0u8; Image::LEN];
-    table::run(&text[..len], &mut image, &mut kept);
+    table::run(&rt, &text, &mut image, &mut kept)
 }

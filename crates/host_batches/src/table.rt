@@ -9,6 +9,7 @@ use forms::bytes::put;
 use forms::entry::{Head, entry_len};
 use forms::image::Image;
 use forms::number::put_u32;
+use std::io;
 use text::line::put_words;
 use text::part::{between, find};
 
@@ -37,26 +38,38 @@ fn given(word: u8, first: u32, lent: usize) -> usize {
 }
 
 // Answers how many bytes of the image the calls of the next line get.
-fn row(text: &[u8], lent: usize, image: &mut [u8], kept: &mut [u8]) -> usize {
+fn row(
+    rt: &impl Print,
+    text: &[u8],
+    lent: usize,
+    image: &mut [u8],
+    kept: &mut [u8],
+) -> io::Result<usize> {
     if find(text, 0, b'=') < text.len() {
-        answer::print(text, lent, image);
-        return lent;
+        answer::print(rt, text, lent, image)?;
+        return Ok(lent);
     }
     let mut line = [0u8; answer::LINE_ROOM];
     let end = put_words(&mut line, 0, text);
-    answer::print_line(&mut line, end);
+    answer::print_line(rt, &mut line, end)?;
     let call = Call::of(text);
     let figures = call.figures;
     edit(call.word, figures[0], figures[1], image, kept);
-    given(call.word, figures[0], lent)
+    Ok(given(call.word, figures[0], lent))
 }
 
-pub(crate) fn run(text: &[u8], image: &mut [u8], kept: &mut [u8]) {
+pub(crate) fn run(
+    rt: &impl Print,
+    text: &[u8],
+    image: &mut [u8],
+    kept: &mut [u8],
+) -> io::Result<()> {
     let mut lent = Image::LEN;
     let mut from: usize = 0;
     while from < text.len() {
         let end = find(text, from, b'\n');
-        lent = row(between(text, from, end), lent, image, kept);
+        lent = row(rt, between(text, from, end), lent, image, kept)?;
         from = end + 1;
     }
+    Ok(())
 }

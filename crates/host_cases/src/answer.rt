@@ -4,7 +4,7 @@ use crate::call::Call;
 use crate::{IMAGE_ROOM, call};
 use forms::bytes::{byte_at, put};
 use host::answer::ReadFigures;
-use libc::STDOUT_FILENO;
+use std::io;
 use text::checksum::checksum;
 use text::line::{put_filled, put_words};
 use text::part::{between, find, front, least};
@@ -24,9 +24,9 @@ struct Sums {
 }
 
 // Writes the first bytes of a line, and a newline behind them.
-pub(crate) fn print_line(line: &mut [u8], len: usize) {
+pub(crate) fn print_line(rt: &impl Print, line: &mut [u8], len: usize) -> io::Result<()> {
     let end = put_words(line, len, b"\n");
-    io::write_all(STDOUT_FILENO, front(line, end));
+    rt.write_all(front(line, end))
 }
 
 fn has_output(word: u8) -> bool {
@@ -72,44 +72,56 @@ fn put_figures(line: &mut [u8], at: usize, word: u8, shown: ReadFigures) -> usiz
     }
 }
 
-fn print_answer(text: &[u8], shown: ReadFigures, before: Sums, now: Sums) {
+fn print_answer(
+    rt: &impl Print,
+    text: &[u8],
+    shown: ReadFigures,
+    before: Sums,
+    now: Sums,
+) -> io::Result<()> {
     let mut line = [0u8; LINE_ROOM];
     let mut end = put_words(&mut line, 0, between(text, 0, find(text, 0, b'=')));
     end = put_figures(&mut line, end, byte_at(text, 0), shown);
     end = put_sums(&mut line, end, byte_at(text, 0), before, now);
-    print_line(&mut line, end);
+    print_line(rt, &mut line, end)
 }
 
 // The call gets the first bytes of the image's buffer.
-fn print_call(text: &[u8], lent: usize, image: &mut [u8], out: &mut [u8]) {
+fn print_call(
+    rt: &impl Print,
+    text: &[u8],
+    lent: usize,
+    image: &mut [u8],
+    out: &mut [u8],
+) -> io::Result<()> {
     let word = byte_at(text, 0);
     let before = both(word, image, out);
     let end = least(lent, image.len());
     let shown = call::made(Call::of(text), &mut image[0..end], out);
-    print_answer(text, shown, before, both(word, image, out));
+    print_answer(rt, text, shown, before, both(word, image, out))
 }
 
-pub(crate) fn print(text: &[u8], lent: usize, image: &mut [u8]) {
+pub(crate) fn print(rt: &impl Print, text: &[u8], lent: usize, image: &mut [u8]) -> io::Result<()> {
     let mut out = [UNTOUCHED; Proof::MAX_LEN];
-    print_call(text, lent, image, &mut out);
+    print_call(rt, text, lent, image, &mut out)
 }
 
 // The call gets a copy, and the image stays.
-fn print_on_copy(text: &[u8], lent: usize, image: &[u8]) {
+fn print_on_copy(rt: &impl Print, text: &[u8], lent: usize, image: &[u8]) -> io::Result<()> {
     let mut copy = [0u8; IMAGE_ROOM];
     put(&mut copy, 0, image);
-    print(text, lent, &mut copy);
+    print(rt, text, lent, &mut copy)
 }
 
 // Every call but start, each of which the image of the table's damaged cases would take if it were sound. close is made on a copy, since the
 // others ask for the counter that it takes out.
-pub(crate) fn print_each(lent: usize, image: &mut [u8]) {
-    print_on_copy(b"close 7 104 104 1 ", lent, image);
-    print(b"open 6 104 104 1 ", lent, image);
-    print(b"tick 8 20 ", lent, image);
-    print(b"inc 8 20 7 104 1 ", lent, image);
-    print(b"read 7 ", lent, image);
-    print(b"prove 8 20 7 57404 ", lent, image);
-    print(b"last 7 104 57404 ", lent, image);
-    print(b"confirm 7 104 104 1 ", lent, image);
+pub(crate) fn print_each(rt: &impl Print, lent: usize, image: &mut [u8]) -> io::Result<()> {
+    print_on_copy(rt, b"close 7 104 104 1 ", lent, image)?;
+    print(rt, b"open 6 104 104 1 ", lent, image)?;
+    print(rt, b"tick 8 20 ", lent, image)?;
+    print(rt, b"inc 8 20 7 104 1 ", lent, image)?;
+    print(rt, b"read 7 ", lent, image)?;
+    print(rt, b"prove 8 20 7 57404 ", lent, image)?;
+    print(rt, b"last 7 104 57404 ", lent, image)?;
+    print(rt, b"confirm 7 104 104 1 ", lent, image)
 }

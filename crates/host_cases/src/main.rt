@@ -9,15 +9,19 @@ mod many;
 mod table;
 
 use forms::image::Image;
-use libc::STDIN_FILENO;
+use std::io;
+use std::io::Read;
+
+// The most bytes of the input that are read.
+const INPUT: u64 = 65536;
 
 // Room for an image and a byte behind it.
 pub(crate) const IMAGE_ROOM: usize = Image::LEN + 1;
 
-fn main() {
-    let mut text = io::large_buffer();
-    let len = io::read_full(STDIN_FILENO, &mut text);
+fn main(rt: HostRuntime) -> io::Result<()> {
+    let mut text = Vec::new(rt.alloc());
+    rt.stdin().take(INPUT).read_to_end(&mut text)?;
     let mut image = [0u8; IMAGE_ROOM];
     let mut kept = [0u8; IMAGE_ROOM];
-    table::run(&text[..len], &mut image, &mut kept);
+    table::run(&rt, &text, &mut image, &mut kept)
 }

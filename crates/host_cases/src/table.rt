@@ -10,6 +10,7 @@ use forms::bytes::{byte_at, put};
 use forms::entry::{Head, entry_len};
 use forms::image::Image;
 use forms::number::put_u32;
+use std::io;
 use text::line::put_words;
 use text::part::{between, find};
 
@@ -47,34 +48,46 @@ fn edit(call: Call, image: &mut [u8], kept: &mut [u8]) {
 }
 
 // Answers how many bytes of the image's buffer the calls of the next line get.
-fn row(text: &[u8], lent: usize, image: &mut [u8], kept: &mut [u8]) -> usize {
+fn row(
+    rt: &impl Print,
+    text: &[u8],
+    lent: usize,
+    image: &mut [u8],
+    kept: &mut [u8],
+) -> io::Result<usize> {
     let word = byte_at(text, 0);
     if is_call(word) {
-        answer::print(text, lent, image);
-        return lent;
+        answer::print(rt, text, lent, image)?;
+        return Ok(lent);
     }
     if word == b'e' {
-        answer::print_each(lent, image);
-        return lent;
+        answer::print_each(rt, lent, image)?;
+        return Ok(lent);
     }
     let mut line = [0u8; answer::LINE_ROOM];
     let end = put_words(&mut line, 0, text);
-    answer::print_line(&mut line, end);
+    answer::print_line(rt, &mut line, end)?;
     let call = Call::of(text);
     edit(call, image, kept);
     if word == b'g' {
-        call.first as usize
+        Ok(call.first as usize)
     } else {
-        lent
+        Ok(lent)
     }
 }
 
-pub(crate) fn run(text: &[u8], image: &mut [u8], kept: &mut [u8]) {
+pub(crate) fn run(
+    rt: &impl Print,
+    text: &[u8],
+    image: &mut [u8],
+    kept: &mut [u8],
+) -> io::Result<()> {
     let mut lent = Image::LEN;
     let mut from: usize = 0;
     while from < text.len() {
         let end = find(text, from, b'\n');
-        lent = row(between(text, from, end), lent, image, kept);
+        lent = row(rt, between(text, from, end), lent, image, kept)?;
         from = end + 1;
     }
+    Ok(())
 }
