@@ -1,5 +1,5 @@
 -- `forms::bytes::byte_at` meets its contract: past the end the element is the default. Assumes nothing.
-use mathlib.Core.Path.{sym}
+use Rattle.std.proofs.Common.{sym}
 use lib.ListN.{get_or-eq_default}
 use Rattle.forms.proofs.bytes.byte_at.Goals as goal
 

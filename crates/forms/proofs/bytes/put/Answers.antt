@@ -1,12 +1,5 @@
 -- `forms::bytes::put` meets its contract: after i turns the first i bytes of v are copied. Assumes nothing.
-use mathlib.Core.List.{List}
-use Prim.Native.Nat.{ℕ, ◌+◌, ◌-◌}
-use native.Mathlib.Nat.{le_antisymm}
-use native.Mathlib.Numerals.{add-one}
-use native.Mathlib.Omega.{arith}
-use mathlib.Core.Path.{sym, ap, ◌∙◌}
-use borrow.Author.Rules.{rules}
-use lib.ListN.{set, get_or, length-set}
+use Rattle.std.proofs.Common.{List, ℕ, ◌+◌, le_antisymm, add-one, arith, sym, ap, ◌∙◌, rules, set, get_or, length-set}
 use lib.Seq.{paste, paste-zero, paste-suc}
 use Rattle.forms.specs.Laws.BytesLaws.{overwrite-out, overwrite-paste}
 use Rattle.forms.proofs.bytes.put.Goals as goal

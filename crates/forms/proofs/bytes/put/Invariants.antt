@@ -1,7 +1,5 @@
 -- `forms::bytes::put` meets its contract: after i turns the first i bytes of v are copied. Assumes nothing.
-use Prim.Native.Nat.{◌+◌, ◌-◌, ◌≤◌}
-use mathlib.Core.Path.{◌≡◌}
-use lib.ListN.{length}
+use Rattle.std.proofs.Common.{◌+◌, ◌-◌, ◌≤◌, ◌≡◌, length}
 use lib.Seq.{paste}
 use Rattle.forms.proofs.bytes.put.Given as goal
 

@@ -1,11 +1,5 @@
 -- `forms::nonce::agree` meets its contract: where the bytes are there the parts are the windows, and elsewhere the nonces read are. Assumes nothing.
-use mathlib.Core.Path.{◌≡◌, sym, ap, ap₂, ◌∙◌}
-use mathlib.Core.List.{List}
-use Prim.Native.Nat.{ℕ, ◌+◌, ◌-◌, ◌≤◌}
-use native.Mathlib.Omega.{arith}
-use borrow.Author.Tests.{leb-true}
-use lib.ListN.{length, take, drop}
-use lib.Seq.{length-take-le}
+use Rattle.std.proofs.Common.{◌≡◌, sym, ap, ap₂, ◌∙◌, List, ℕ, ◌+◌, ◌-◌, ◌≤◌, arith, leb-true, length, take, drop, length-take-le}
 use Rattle.forms.specs.Bytes.{window, same}
 use Rattle.forms.specs.Laws.BytesLaws.{length-window, window-part}
 use Rattle.forms.specs.Limits.{nonce_len}

@@ -1,13 +1,6 @@
 -- `forms::nonce::nonce_at` meets its contract: after i turns the first i bytes are those of the window. Assumes nothing.
-use mathlib.Core.Path.{◌≡◌, sym, ap, ap₂, ◌∙◌}
-use mathlib.Core.List.{List, [], ◌∷◌, ◌++◌}
-use Prim.Native.Nat.{ℕ, ◌+◌, ◌-◌}
-use native.Mathlib.Nat.{le_antisymm}
-use native.Mathlib.Numerals.{add-one}
-use native.Mathlib.Omega.{arith}
-use borrow.Author.Rules.{rules}
-use lib.ListN.{take, set, length-set}
-use lib.Seq.{take-suc-set, take_all}
+use Rattle.std.proofs.Common.{◌≡◌, sym, ap, ap₂, ◌∙◌, List, [], ◌∷◌, ◌++◌, ℕ, le_antisymm, add-one, arith, rules, take, set, length-set}
+use Rattle.std.proofs.Common.{take-suc-set, take_all}
 use Rattle.forms.specs.Bytes.{window}
 use Rattle.forms.specs.Laws.BytesLaws.{window-snoc, window-past}
 use Rattle.forms.specs.Limits.{nonce_len}

@@ -1,7 +1,5 @@
 -- `forms::nonce::nonce_at` meets its contract: after i turns the first i bytes are those of the window. Assumes nothing.
-use mathlib.Core.Path.{◌≡◌}
-use Prim.Native.Nat.{◌-◌, ◌<◌, ◌≤◌}
-use lib.ListN.{length, take}
+use Rattle.std.proofs.Common.{◌≡◌, ◌-◌, ◌<◌, ◌≤◌, length, take}
 use Rattle.forms.specs.Bytes.{window}
 use Rattle.forms.specs.Limits.{nonce_len}
 use Rattle.forms.proofs.nonce.nonce_at.Given as goal

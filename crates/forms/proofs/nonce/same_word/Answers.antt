@@ -1,6 +1,5 @@
 -- `forms::nonce::same_word` meets its contract. Assumes nothing.
-use mathlib.Core.Path.{ap₂}
-use lib.Dec.{eqb}
+use Rattle.std.proofs.Common.{ap₂, eqb}
 use Rattle.forms.proofs.nonce.same_word.Goals as goal
 
 pub returns : goal.returns

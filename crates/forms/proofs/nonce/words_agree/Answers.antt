@@ -1,6 +1,5 @@
 -- `forms::nonce::words_agree` meets its contract: five words, one after the other. Assumes nothing.
-use mathlib.Core.Path.{refl, ◌∙◌}
-use native.Mathlib.Omega.{arith}
+use Rattle.std.proofs.Common.{refl, ◌∙◌, arith}
 use Rattle.forms.specs.Bytes.{Bytes, same}
 use Rattle.forms.specs.Number.{words}
 use Rattle.forms.specs.Laws.WordsLaws.{words_more, nonces-compare}

@@ -1,5 +1,5 @@
 -- `forms::number::get_u16` meets its contract. Assumes nothing.
-use mathlib.Core.Path.{sym}
+use Rattle.std.proofs.Common.{sym}
 use Rattle.forms.specs.Laws.NumberLaws.{big_endian-past}
 use Rattle.forms.proofs.number.get_u16.Goals as goal
 

@@ -1,7 +1,5 @@
 -- `forms::number::get_u32` meets its contract. Assumes nothing.
-use mathlib.Core.Path.{sym}
-use native.Mathlib.Omega.{arith}
-use borrow.Author.Tests.{leb-true}
+use Rattle.std.proofs.Common.{sym, arith, leb-true}
 use Rattle.forms.specs.Laws.NumberLaws.{big_endian-past}
 use Rattle.forms.proofs.number.get_u32.Goals as goal
 

@@ -1,8 +1,6 @@
 -- `forms::number::put_u32` meets its contract: its stores, one a byte, are one store of the digits. Assumes nothing.
-use mathlib.Core.Path.{sym}
-use native.Mathlib.Omega.{arith}
+use Rattle.std.proofs.Common.{sym, arith, length-set}
 use native.Mathlib.Numerals.{towards_suc}
-use lib.ListN.{length-set}
 use Rattle.forms.specs.Number.{digits}
 use Rattle.forms.specs.Laws.BytesLaws.{overwrite-out, overwrite-sets}
 use Rattle.forms.proofs.number.put_u32.Goals as goal

@@ -1,10 +1,5 @@
 -- `grammar::command::is_name` meets its contract: the bytes passed are those of the name. Assumes nothing.
-use mathlib.Core.Path.{refl, sym, ap, ◌∙◌}
-use mathlib.Core.Bool.{Bool, ◌&&◌}
-use Prim.Native.Nat.{ℕ, ◌+◌}
-use native.Mathlib.Omega.{arith}
-use borrow.Author.Tests.{eq-eqb, ne_eqb}
-use lib.ListN.{take, drop}
+use Rattle.std.proofs.Common.{refl, sym, ap, ◌∙◌, Bool, ◌&&◌, ℕ, ◌+◌, arith, eq-eqb, ne_eqb, take, drop}
 use Rattle.forms.specs.Bytes.{same}
 use Rattle.grammar.specs.Laws.CommandLaws.{name-differs, name-from, name-past}
 use Rattle.grammar.proofs.command.is_name.Goals as goal

@@ -1,7 +1,5 @@
 -- `grammar::command::is_name` meets its contract: the bytes passed are those of the name. Assumes nothing.
-use mathlib.Core.Path.{◌≡◌}
-use Prim.Native.Nat.{◌-◌, ◌≤◌}
-use lib.ListN.{length, take, drop}
+use Rattle.std.proofs.Common.{◌≡◌, ◌-◌, ◌≤◌, length, take, drop}
 use Rattle.forms.specs.Bytes.{same}
 use Rattle.grammar.proofs.command.is_name.Given as goal
 

@@ -1,5 +1,5 @@
 -- `grammar::command::one_of` meets its contract, by the figure. Assumes nothing.
-use mathlib.Core.Path.{sym, ap}
+use Rattle.std.proofs.Common.{sym, ap}
 use Rattle.grammar.specs.Command.{one_of}
 use Rattle.grammar.proofs.command.one_of.Goals as goal
 

@@ -1,7 +1,5 @@
 -- `grammar::command::read_arguments` meets its contract, by how many words there are. Assumes nothing.
-use Prim.Native.Nat.{ℕ, ◌+◌, ◌≤◌, ◌<◌, max}
-use mathlib.Core.Path.{◌≡◌, sym, ap, ap₂, ◌∙◌}
-use native.Mathlib.Omega.{arith}
+use Rattle.std.proofs.Common.{ℕ, ◌+◌, ◌≤◌, ◌<◌, max, ◌≡◌, sym, ap, ap₂, ◌∙◌, arith}
 use Rattle.grammar.specs.Command.{one_of, two_of, third_to}
 use Rattle.grammar.specs.Laws.CommandLaws.{Behind, none-behind, one-behind, two-behind, three-behind, more-behind}
 use Rattle.grammar.proofs.command.read_arguments.Goals as goal

@@ -1,5 +1,5 @@
 -- `grammar::command::third_to` meets its contract, by the figures before and the third. Assumes nothing.
-use mathlib.Core.Path.{sym, ap₂}
+use Rattle.std.proofs.Common.{sym, ap₂}
 use Rattle.grammar.specs.Command.{third_to}
 use Rattle.grammar.proofs.command.third_to.Goals as goal
 

@@ -1,5 +1,5 @@
 -- `grammar::command::two_of` meets its contract, by the two figures. Assumes nothing.
-use mathlib.Core.Path.{sym, ap₂}
+use Rattle.std.proofs.Common.{sym, ap₂}
 use Rattle.grammar.specs.Command.{two_of}
 use Rattle.grammar.proofs.command.two_of.Goals as goal
 

@@ -1,11 +1,5 @@
 -- `grammar::numeral::read_figure` meets its contract: a figure without padding is its value, where that is not too large. Assumes nothing.
-use mathlib.Core.Path.{◌≡◌, sym, ap, ◌∙◌}
-use mathlib.Core.Bool.{true}
-use mathlib.Core.Logic.{◌⊎◌, inl, inr, ⊎_elim}
-use mathlib.Core.List.{List}
-use Prim.Native.Nat.{ℕ, ◌-◌, ◌<◌, ◌≤◌}
-use native.Mathlib.Omega.{arith}
-use lib.ListN.{length, take, drop, get_or}
+use Rattle.std.proofs.Common.{◌≡◌, sym, ap, ◌∙◌, true, ◌⊎◌, inl, inr, ⊎_elim, List, ℕ, ◌-◌, ◌<◌, ◌≤◌, arith, length, take, drop, get_or}
 use Rattle.text.specs.Text.{zero_digit}
 use Rattle.grammar.specs.Numeral.{Figure, figure_of, unpadded}
 use Rattle.grammar.specs.Laws.NumeralLaws.{length_part, part-at-first, unpadded-first, figure-none, figure-padded, figure-large, figure-number}

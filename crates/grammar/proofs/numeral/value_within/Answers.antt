@@ -1,11 +1,5 @@
 -- `grammar::numeral::value_within` meets its contract: the digits passed stand for the value so far. Assumes nothing.
-use mathlib.Core.Path.{◌≡◌, refl, sym, ap, ◌∙◌}
-use mathlib.Core.Logic.{⊎_elim}
-use Prim.Native.Nat.{ℕ, ◌+◌, ◌-◌, ◌*◌, ◌<◌, ◌≤◌}
-use native.Mathlib.Omega.{arith}
-use borrow.Author.Rules.{rules}
-use mathlib.Core.List.{List}
-use lib.ListN.{length, take, drop, get_or}
+use Rattle.std.proofs.Common.{◌≡◌, refl, sym, ap, ◌∙◌, ⊎_elim, ℕ, ◌+◌, ◌-◌, ◌*◌, ◌<◌, ◌≤◌, arith, rules, List, length, take, drop, get_or}
 use Rattle.text.specs.Text.{zero_digit}
 use Rattle.grammar.specs.Laws.NumeralLaws.{value_within, digit-below, digit-above, digit-within, within_none, within-next, within-stops, within-large}
 use Rattle.grammar.proofs.numeral.value_within.Goals as goal

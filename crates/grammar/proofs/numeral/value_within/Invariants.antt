@@ -1,7 +1,5 @@
 -- `grammar::numeral::value_within` meets its contract: the digits passed stand for the value so far. Assumes nothing.
-use mathlib.Core.Path.{◌≡◌}
-use Prim.Native.Nat.{◌-◌, ◌≤◌}
-use lib.ListN.{take, drop}
+use Rattle.std.proofs.Common.{◌≡◌, ◌-◌, ◌≤◌, take, drop}
 use Rattle.forms.specs.Limits.{max_word}
 use Rattle.grammar.specs.Laws.NumeralLaws.{value_within}
 use Rattle.grammar.proofs.numeral.value_within.Given as goal

@@ -1,9 +1,5 @@
 -- `grammar::order::read_order` meets its contract, by how many figures there are. Assumes nothing.
-use mathlib.Core.Path.{◌≡◌, sym, ap, ◌∙◌}
-use mathlib.Core.List.{List}
-use lib.ListN.{take}
-use Prim.Native.Nat.{ℕ}
-use native.Mathlib.Omega.{arith}
+use Rattle.std.proofs.Common.{◌≡◌, sym, ap, ◌∙◌, List, take, ℕ, arith}
 use Rattle.text.specs.Text.{first_place}
 use Rattle.grammar.specs.Command.{Arguments, arguments_of, space}
 use Rattle.grammar.specs.Laws.CommandLaws.{order-named, rest_of}

@@ -1,10 +1,5 @@
 -- `host::batch::bad_batch` meets its contract. Assumes nothing.
-use mathlib.Core.Path.{◌≡◌, sym, ap, ap₂, ◌∙◌}
-use mathlib.Core.Bool.{Bool, true, false, not, ◌||◌}
-use Prim.Native.Nat.{◌*◌}
-use lib.Dec.{eqb, ltb}
-use lib.ListN.{length}
-use borrow.Author.Tests.{eq-eqb, ne_eqb, le-ltb, lt-ltb}
+use Rattle.std.proofs.Common.{◌≡◌, sym, ap, ap₂, ◌∙◌, Bool, true, false, not, ◌||◌, ◌*◌, eqb, ltb, length, eq-eqb, ne_eqb, le-ltb, lt-ltb}
 use Rattle.forms.specs.Limits.{max_requests, request_len}
 use Rattle.forms.specs.Laws.TestsLaws.{or-first, or-second}
 use Rattle.host.proofs.batch.bad_batch.Goals as goal

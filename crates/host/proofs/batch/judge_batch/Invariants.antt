@@ -1,6 +1,5 @@
 -- `host::batch::judge_batch` meets its contract. The loop's invariant: the code has what the fold has of the requests so far. Assumes nothing.
-use Prim.Native.Nat.{◌-◌, ◌≤◌}
-use lib.ListN.{length}
+use Rattle.std.proofs.Common.{◌-◌, ◌≤◌, length}
 use Rattle.log_image.specs.State.{decode}
 use Rattle.host.specs.Laws.Batch.{JudgedAs}
 use Rattle.host.specs.Host.{asked_from, judged_batch}

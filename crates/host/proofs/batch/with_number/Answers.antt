@@ -1,6 +1,5 @@
 -- `host::batch::with_number` meets its contract. Assumes nothing.
-use Prim.Native.Nat.{◌+◌, ◌-◌, ◌*◌}
-use native.Mathlib.Omega.{arith}
+use Rattle.std.proofs.Common.{◌+◌, ◌-◌, ◌*◌, arith}
 use Rattle.forms.specs.Limits.{request_len}
 use Rattle.host.specs.Laws.JudgedLaws.{number-kept, number_passed}
 use Rattle.host.proofs.batch.with_number.Goals as goal

@@ -1,10 +1,6 @@
 -- `host::close::close` meets its contract: 14, a refusal, or the record taken out and the entries no longer needed dropped. Assumes
 -- nothing.
-use mathlib.Core.Path.{◌≡◌, sym, ap, ◌∙◌}
-use mathlib.Core.Bool.{true}
-use mathlib.Core.List.{List}
-use Prim.Native.Nat.{ℕ}
-use native.Mathlib.Omega.{arith}
+use Rattle.std.proofs.Common.{◌≡◌, sym, ap, ◌∙◌, true, List, ℕ, arith}
 use Rattle.forms.specs.Bytes.{Bytes}
 use Rattle.log_image.specs.Laws.ImageRoundTrip.{StateFits, sound-decode}
 use Rattle.log_image.specs.Sound.{record_of, sound}

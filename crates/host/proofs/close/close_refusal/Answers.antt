@@ -1,10 +1,5 @@
 -- `host::close::close_refusal` meets its contract, row by row. Assumes nothing.
-use mathlib.Core.Path.{◌≡◌, refl, sym, ap, ◌∙◌}
-use mathlib.Core.Bool.{not}
-use Prim.Native.Nat.{ℕ}
-use borrow.Author.Tests.{eq-eqb, ne_eqb}
-use lib.Dec.{eqb}
-use lib.ListN.{drop}
+use Rattle.std.proofs.Common.{◌≡◌, refl, sym, ap, ◌∙◌, not, ℕ, eq-eqb, ne_eqb, eqb, drop}
 use Rattle.forms.specs.Checks.{first_answer}
 use Rattle.forms.specs.Laws.ChecksLaws.{passed, given}
 use Rattle.forms.specs.declared.terms.GlobalClock.{GlobalClock}

@@ -1,11 +1,6 @@
 -- `host::open::open_refusal` meets its contract, row by row. Assumes nothing.
-use mathlib.Core.Path.{◌≡◌, refl, sym, ap, ap₂, ◌∙◌}
-use mathlib.Core.Bool.{not, ◌||◌}
-use Prim.Native.Nat.{ℕ, ◌-◌}
-use native.Mathlib.Omega.{arith}
-use borrow.Author.Tests.{eq-eqb, ne_eqb, lt-ltb, le-ltb, ltb-false}
-use lib.Dec.{eqb, ltb}
-use lib.ListN.{drop, length}
+use Rattle.std.proofs.Common.{◌≡◌, refl, sym, ap, ap₂, ◌∙◌, not, ◌||◌, ℕ, ◌-◌, arith, eq-eqb, ne_eqb, lt-ltb, le-ltb, ltb-false, eqb, ltb, drop}
+use Rattle.std.proofs.Common.{length}
 use Rattle.forms.specs.Checks.{first_answer}
 use Rattle.forms.specs.declared.terms.GlobalClock.{GlobalClock}
 use Rattle.forms.specs.Laws.ChecksLaws.{passed, given}

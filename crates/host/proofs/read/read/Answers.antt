@@ -1,10 +1,5 @@
 -- `host::read::read` meets its contract, row by row. Assumes nothing.
-use mathlib.Core.Path.{◌≡◌, refl, sym, ap, ◌∙◌}
-use mathlib.Core.Bool.{true, not}
-use Prim.Native.Nat.{ℕ}
-use native.Mathlib.Omega.{arith}
-use borrow.Author.Tests.{eq-eqb, ne_eqb}
-use lib.ListN.{drop}
+use Rattle.std.proofs.Common.{◌≡◌, refl, sym, ap, ◌∙◌, true, not, ℕ, arith, eq-eqb, ne_eqb, drop}
 use Rattle.forms.specs.declared.running.Running.{Running}
 use Rattle.forms.specs.Checks.{first_answer}
 use Rattle.forms.specs.Laws.ChecksLaws.{passed, given}

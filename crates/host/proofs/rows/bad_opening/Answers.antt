@@ -1,5 +1,5 @@
 -- `host::rows::bad_opening` meets its contract. Assumes nothing.
-use borrow.Author.Tests.{lt-ltb, le-ltb}
+use Rattle.std.proofs.Common.{lt-ltb, le-ltb}
 use Rattle.forms.specs.Laws.TestsLaws.{or-first, or-second}
 use Rattle.host.proofs.rows.bad_opening.Goals as goal
 

@@ -1,14 +1,10 @@
 -- `host::start::start` meets its contract. Assumes nothing.
-use mathlib.Core.Path.{◌≡◌, sym, ap, ◌∙◌}
-use mathlib.Core.Bool.{Bool, true, false, cond}
-use lib.Dec.{eqb}
-use lib.ListN.{length}
+use Rattle.std.proofs.Common.{◌≡◌, sym, ap, ◌∙◌, Bool, true, false, cond, eqb, length, refl}
 use Rattle.forms.specs.Limits.{image_len}
 use Rattle.log_image.specs.State.{encode}
 use Rattle.log_store.specs.Effect.{started}
 use Rattle.log_store.specs.Store.{begun}
 use Rattle.host.specs.Host.{Settled, start_call}
-use mathlib.Core.Path.{refl}
 use Rattle.host.proofs.start.start.Goals as goal
 
 -- the image of a choice is the choice of the images

@@ -1,9 +1,5 @@
 -- `log_store::change::change_record` meets its contract. Assumes nothing.
-use mathlib.Core.Path.{◌≡◌, sym, ap, ◌∙◌}
-use mathlib.Core.Bool.{Bool, cond}
-use mathlib.Core.List.{List}
-use Prim.Native.Nat.{ℕ}
-use lib.Dec.{ltb}
+use Rattle.std.proofs.Common.{◌≡◌, sym, ap, ◌∙◌, Bool, cond, List, ℕ, ltb}
 use Rattle.forms.specs.Bytes.{overwrite}
 use Rattle.forms.specs.Record.{record_at, record_bytes}
 use Rattle.forms.specs.declared.record.Record.{Record}

@@ -1,11 +1,5 @@
 -- `log_store::records::add_record` meets its contract. Assumes nothing.
-use mathlib.Core.Path.{◌≡◌, sym, ap, ◌∙◌}
-use mathlib.Core.Bool.{Bool, true, false, cond}
-use mathlib.Core.List.{List}
-use Prim.Native.Nat.{ℕ, ◌+◌}
-use native.Mathlib.Omega.{arith}
-use borrow.Author.Tests.{le-ltb, lt-ltb}
-use lib.Dec.{ltb}
+use Rattle.std.proofs.Common.{◌≡◌, sym, ap, ◌∙◌, Bool, true, false, cond, List, ℕ, ◌+◌, arith, le-ltb, lt-ltb, ltb}
 use Rattle.forms.specs.Bytes.{overwrite}
 use Rattle.forms.specs.Limits.{max_counters}
 use Rattle.forms.specs.Number.{digits}

@@ -1,11 +1,5 @@
 -- `log_store::records::remove_record` meets its contract. Assumes nothing.
-use mathlib.Core.Path.{◌≡◌, sym, ap, ap₂, ◌∙◌}
-use mathlib.Core.Bool.{Bool, true, cond}
-use mathlib.Core.List.{List}
-use Prim.Native.Nat.{ℕ, ◌-◌, ◌*◌, ◌<◌}
-use native.Mathlib.Omega.{arith}
-use borrow.Author.Tests.{ltb-true}
-use lib.Dec.{ltb}
+use Rattle.std.proofs.Common.{◌≡◌, sym, ap, ap₂, ◌∙◌, Bool, true, cond, List, ℕ, ◌-◌, ◌*◌, ◌<◌, arith, ltb-true, ltb}
 use Rattle.forms.specs.Bytes.{overwrite}
 use Rattle.forms.specs.Limits.{record_len}
 use Rattle.forms.specs.Number.{be32, digits}

@@ -1,7 +1,5 @@
 -- `record_change::change::changed` meets its contract, by what is changed. Assumes nothing.
-use mathlib.Core.Path.{◌≡◌, sym, ap, ◌∙◌}
-use Prim.Native.Nat.{ℕ, ◌+◌, min}
-use native.Mathlib.Omega.{arith}
+use Rattle.std.proofs.Common.{◌≡◌, sym, ap, ◌∙◌, ℕ, ◌+◌, min, arith}
 use Rattle.forms.specs.Limits.{max_word}
 use Rattle.forms.specs.declared.record.Record.{Record}
 use Rattle.record_change.specs.Change.{changed_by}

@@ -1,6 +1,5 @@
 -- `text::checksum::checksum` meets its contract: what is left of the slice makes the sum so far the checksum. Assumes nothing.
-use mathlib.Core.Path.{refl, sym, ◌∙◌}
-use native.Mathlib.Omega.{arith}
+use Rattle.std.proofs.Common.{refl, sym, ◌∙◌, arith}
 use Rattle.text.specs.Text.{checksum, mixed}
 use Rattle.text.specs.Laws.TextLaws.{fold_next, fold-past}
 use Rattle.text.proofs.checksum.checksum.Goals as goal

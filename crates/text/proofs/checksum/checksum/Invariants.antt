@@ -1,8 +1,6 @@
 -- `text::checksum::checksum` meets its contract: what is left of the slice makes the sum so far the checksum. Assumes nothing.
-use mathlib.Core.Path.{◌≡◌}
-use Prim.Native.Nat.{◌<◌, ◌-◌}
+use Rattle.std.proofs.Common.{◌≡◌, ◌<◌, ◌-◌, length, drop}
 use mathlib.Core.List.{foldl}
-use lib.ListN.{length, drop}
 use Rattle.text.specs.Text.{checksum, mixed}
 use Rattle.text.proofs.checksum.checksum.Given as goal
 

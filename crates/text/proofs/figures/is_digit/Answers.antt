@@ -1,5 +1,6 @@
 -- `text::figures::is_digit` meets its contract, by its first test. Assumes nothing.
-use borrow.Author.Tests.{le-leb, lt-leb}
+use Rattle.std.proofs.Common.{le-leb}
+use Rattle.std.proofs.lemmas.Bool.{lt-leb}
 use Rattle.text.proofs.figures.is_digit.Goals as goal
 
 pub returns-then-byte-ge48 : goal.returns-then-byte-ge48

@@ -1,8 +1,6 @@
 -- `text::figures::put_last` meets its contract: past the end nothing is stored. Assumes nothing.
-use Prim.Native.Nat.{◌-◌}
-use native.Mathlib.Omega.{arith}
+use Rattle.std.proofs.Common.{◌-◌, arith, eq-eqb, ne_eqb}
 use lib.Seq.{set_out}
-use borrow.Author.Tests.{eq-eqb, ne_eqb}
 use Rattle.text.specs.Text.{put_last}
 use Rattle.text.proofs.figures.put_last.Goals as goal
 

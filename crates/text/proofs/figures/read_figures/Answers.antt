@@ -1,8 +1,5 @@
 -- `text::figures::read_figures` meets its contract: what is left of the text makes of the figures so far those of the whole. Assumes nothing.
-use mathlib.Core.Path.{refl, sym, ap, ◌∙◌}
-use Prim.Native.Nat.{ℕ, ◌<◌}
-use native.Mathlib.Omega.{arith}
-use lib.ListN.{length, get_or}
+use Rattle.std.proofs.Common.{refl, sym, ap, ◌∙◌, ℕ, ◌<◌, arith, length, get_or}
 use Rattle.text.specs.Text.{FiguresRead, byte_read, figures_in, put_last}
 use Rattle.text.specs.Laws.TextLaws.{digit-read, fold_next, fold-past, next-read}
 use Rattle.text.proofs.figures.read_figures.Goals.{then-is_digit, else-is_digit}

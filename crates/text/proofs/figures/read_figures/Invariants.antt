@@ -1,8 +1,6 @@
 -- `text::figures::read_figures` meets its contract: what is left of the text makes of the figures so far those of the whole. Assumes nothing.
-use mathlib.Core.Path.{◌≡◌}
-use Prim.Native.Nat.{◌-◌, ◌≤◌}
+use Rattle.std.proofs.Common.{◌≡◌, ◌-◌, ◌≤◌, length, drop}
 use mathlib.Core.List.{foldl}
-use lib.ListN.{length, drop}
 use Rattle.text.specs.Text.{byte_read, figures_in}
 use Rattle.text.proofs.figures.read_figures.Given as goal
 

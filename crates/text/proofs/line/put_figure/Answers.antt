@@ -1,10 +1,5 @@
 -- `text::line::put_figure` meets its contract: behind a space stand the numeral's digits. Assumes nothing.
-use mathlib.Core.Path.{◌≡◌, sym, ap, ◌∙◌}
-use mathlib.Core.List.{List}
-use Prim.Native.Nat.{ℕ, ◌≤◌}
-use lib.ListN.{length, replicate}
-use lib.Seq.{length-take-le}
-use native.Mathlib.Omega.{arith}
+use Rattle.std.proofs.Common.{◌≡◌, sym, ap, ◌∙◌, List, ℕ, ◌≤◌, length, replicate, length-take-le, arith}
 use Rattle.forms.specs.Bytes.{overwrite}
 use Rattle.forms.specs.Laws.BytesLaws.{length-overwrite}
 use Rattle.text.specs.Line.{max_digits, numeral, spaced, stored_end}

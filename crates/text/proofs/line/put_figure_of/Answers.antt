@@ -1,7 +1,5 @@
 -- `text::line::put_figure_of` meets its contract, with a figure there and without. Assumes nothing.
-use mathlib.Core.Path.{sym}
-use mathlib.Core.List.{[]}
-use native.Mathlib.Omega.{arith}
+use Rattle.std.proofs.Common.{sym, [], arith}
 use Rattle.text.specs.Line.{figure_at}
 use Rattle.text.specs.Laws.LineLaws.{figure-missing, figure-there, nothing_put, put_same}
 use Rattle.text.proofs.line.put_figure_of.Goals as goal

@@ -1,8 +1,5 @@
 -- `text::line::put_filled` meets its contract: what is left of the words makes of the text so far the whole. Assumes nothing.
-use mathlib.Core.Path.{refl, sym, ap, ◌∙◌}
-use Prim.Native.Nat.{ℕ, ◌<◌}
-use native.Mathlib.Omega.{arith}
-use lib.ListN.{length, get_or}
+use Rattle.std.proofs.Common.{refl, sym, ap, ◌∙◌, ℕ, ◌<◌, arith, length, get_or}
 use Rattle.text.specs.Line.{Filled, byte_filled, filled_in}
 use Rattle.text.specs.Laws.LineLaws.{figure-filled, word-filled}
 use Rattle.text.specs.Laws.TextLaws.{fold_next, fold-past}

@@ -1,8 +1,6 @@
 -- `text::line::put_filled` meets its contract: what is left of the words makes of the text so far the whole. Assumes nothing.
-use mathlib.Core.Path.{◌≡◌}
-use Prim.Native.Nat.{◌-◌, ◌≤◌}
+use Rattle.std.proofs.Common.{◌≡◌, ◌-◌, ◌≤◌, length, drop}
 use mathlib.Core.List.{foldl}
-use lib.ListN.{length, drop}
 use Rattle.text.specs.Line.{byte_filled, filled_in}
 use Rattle.text.proofs.line.put_filled.Given as goal
 

@@ -1,6 +1,5 @@
 -- `text::line::put_numeral` meets its contract: the library's digits are the numeral. Assumes nothing.
-use mathlib.Core.Path.{◌∙◌}
-use native.Mathlib.Omega.{arith}
+use Rattle.std.proofs.Common.{◌∙◌, arith}
 use Rattle.text.specs.Line.{numeral}
 use Rattle.text.specs.Laws.LineLaws.{decimal-numeral, put_same}
 use Rattle.text.proofs.line.put_numeral.Goals as goal

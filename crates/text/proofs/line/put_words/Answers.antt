@@ -1,7 +1,5 @@
 -- `text::line::put_words` meets its contract: its two tests are the definition's. Assumes nothing.
-use mathlib.Core.Path.{sym}
-use native.Mathlib.Omega.{arith}
-use borrow.Author.Rules.{rules}
+use Rattle.std.proofs.Common.{sym, arith, rules}
 use Rattle.text.specs.Laws.LineLaws.{nothing_stored, stored-fits}
 use Rattle.text.proofs.line.put_words.Goals as goal
 

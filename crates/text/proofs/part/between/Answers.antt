@@ -1,7 +1,6 @@
 -- `text::part::between` meets its contract: its two tests are those of the definition. Assumes nothing.
-use mathlib.Core.Logic.{⊎_elim}
-use lib.ListN.{length}
-use borrow.Author.Tests.{le-leb, lt-leb}
+use Rattle.std.proofs.Common.{⊎_elim, length, le-leb}
+use Rattle.std.proofs.lemmas.Bool.{lt-leb}
 use Rattle.text.specs.Text.{between}
 use Rattle.text.proofs.part.between.Goals as goal
 

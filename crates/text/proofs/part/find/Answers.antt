@@ -1,6 +1,5 @@
 -- `text::part::find` meets its contract: no byte passed is the one looked for. Assumes nothing.
-use mathlib.Core.Path.{refl}
-use native.Mathlib.Omega.{arith}
+use Rattle.std.proofs.Common.{refl, arith}
 use Rattle.text.specs.Laws.TextLaws.{found_here, found-later, found_none}
 use Rattle.text.proofs.part.find.Goals as goal
 

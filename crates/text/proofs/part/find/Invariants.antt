@@ -1,7 +1,5 @@
 -- `text::part::find` meets its contract: no byte passed is the one looked for. Assumes nothing.
-use mathlib.Core.Path.{◌≡◌}
-use Prim.Native.Nat.{◌-◌, ◌≤◌, max}
-use lib.ListN.{length}
+use Rattle.std.proofs.Common.{◌≡◌, ◌-◌, ◌≤◌, max, length}
 use Rattle.text.specs.Text.{first_place}
 use Rattle.text.proofs.part.find.Given as goal
 

@@ -1,7 +1,5 @@
 -- `text::part::front` meets its contract: a list that is no longer is its own front. Assumes nothing.
-use mathlib.Core.Path.{sym}
-use native.Mathlib.Omega.{arith}
-use lib.Seq.{length-take-le, take_all}
+use Rattle.std.proofs.Common.{sym, arith, length-take-le, take_all}
 use Rattle.text.proofs.part.front.Goals as goal
 
 pub slice_bounds-result-end : goal.slice_bounds-result-end

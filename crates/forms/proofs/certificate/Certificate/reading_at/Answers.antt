@@ -1,5 +1,5 @@
 -- `forms::certificate::Certificate::reading_at` meets its contract. Assumes nothing.
-use mathlib.Core.Path.{ap}
+use Rattle.std.proofs.Common.{ap}
 use Rattle.forms.specs.Terms.{global_clock}
 use Rattle.forms.specs.Certificate.{certificate_at}
 use Rattle.forms.proofs.certificate.Certificate.reading_at.Goals as goal

@@ -1,9 +1,6 @@
 -- `forms::certificate::Certificate::write` meets its contract: two stores side by side are one. Assumes nothing.
-use mathlib.Core.Path.{◌≡◌, refl, sym}
-use lib.ListN.{length}
+use Rattle.std.proofs.Common.{◌≡◌, refl, sym, length, arith, rules}
 use Rattle.forms.specs.Limits.{nonce_len}
-use native.Mathlib.Omega.{arith}
-use borrow.Author.Rules.{rules}
 use Rattle.forms.specs.Number.{digits}
 use Rattle.forms.specs.Certificate.{certificate_bytes}
 use Rattle.forms.specs.Laws.BytesLaws.{overwrite-out, stored_next}

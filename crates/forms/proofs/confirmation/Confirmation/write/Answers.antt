@@ -1,7 +1,5 @@
 -- `forms::confirmation::Confirmation::write` meets its contract: three stores side by side are one. Assumes nothing.
-use mathlib.Core.Path.{refl, sym}
-use mathlib.Core.List.{◌++◌}
-use native.Mathlib.Omega.{arith}
+use Rattle.std.proofs.Common.{refl, sym, ◌++◌, arith}
 use Rattle.forms.specs.Number.{digits}
 use Rattle.forms.specs.Confirmation.{confirmation_bytes}
 use Rattle.forms.specs.Laws.BytesLaws.{overwrite-out, stored_next}

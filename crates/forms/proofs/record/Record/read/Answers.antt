@@ -1,6 +1,5 @@
 -- `forms::record::Record::read` meets its contract: its parts are what stands there, and past the end there is 0. Assumes nothing.
-use mathlib.Core.Path.{sym}
-use native.Mathlib.Omega.{arith}
+use Rattle.std.proofs.Common.{sym, arith}
 use Rattle.forms.specs.Laws.NumberLaws.{big_endian-past}
 use Rattle.forms.specs.Record.{current_place, proofs_place}
 use Rattle.forms.proofs.record.Record.read.Goals as goal

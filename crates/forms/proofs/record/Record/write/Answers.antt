@@ -1,7 +1,5 @@
 -- `forms::record::Record::write` meets its contract: its parts stored side by side are one. Assumes nothing.
-use mathlib.Core.Path.{sym}
-use mathlib.Core.List.{◌++◌}
-use native.Mathlib.Omega.{arith}
+use Rattle.std.proofs.Common.{sym, ◌++◌, arith}
 use Rattle.forms.specs.Number.{digits}
 use Rattle.forms.specs.Laws.BytesLaws.{overwrite-out, stored_next}
 use Rattle.forms.specs.Confirmation.{confirmation_bytes}
