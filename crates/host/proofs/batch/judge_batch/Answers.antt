@@ -1,5 +1,5 @@
 -- `host::batch::judge_batch` meets its contract. The loop's invariant: the code has what the fold has of the requests so far. Assumes nothing.
-use Rattle.std.proofs.Common.{◌≡◌, sym, subst, ℕ, ◌+◌, ◌-◌, ◌*◌, ◌/◌, ◌≤◌, ◌<◌, div-add-mod', arith, length}
+use Rattle.std.proofs.Common.{◌≡◌, sym, subst, ℕ, ◌+◌, ◌*◌, ◌/◌, ◌≤◌, ◌<◌, div-add-mod', arith, length}
 use Rattle.forms.specs.Bytes.{Bytes}
 use Rattle.forms.specs.Limits.{max_requests, request_len}
 use Rattle.log_image.specs.State.{decode}
