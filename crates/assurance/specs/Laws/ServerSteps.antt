@@ -12,8 +12,8 @@ use Rattle.forms.specs.declared.request.Request.{Request}
 use Rattle.forms.specs.declared.terms.CounterId.{CounterId}
 use Rattle.forms.specs.declared.terms.GlobalClock.{GlobalClock}
 use Rattle.history.specs.History.{HistoryEvent, Given, list, increment, read, clock_after}
-use Rattle.history.specs.Laws.HistoryLaws.{list-one, clock-next}
-use Rattle.history.specs.Laws.ReadLaws.{read-keeps-clock}
+use Rattle.history.proofs.Laws.HistoryLaws.{list-one, clock-next}
+use Rattle.history.proofs.Laws.ReadLaws.{read-keeps-clock}
 use Rattle.history.specs.Value.{Signatures}
 use Rattle.log_image.specs.Laws.ImageRoundTrip.{decode-encode}
 use Rattle.log_image.specs.Sound.{base, distinct, oldest}

@@ -16,10 +16,10 @@ use Rattle.forms.specs.declared.terms.CounterId.{CounterId}
 use Rattle.forms.specs.declared.terms.GlobalClock.{GlobalClock}
 use Rattle.digest.specs.Seal.{is_sealed}
 use Rattle.history.specs.History.{HistoryEvent, list, read, clock_after, made}
-use Rattle.history.specs.Laws.HistoryLaws.{clock-never-falls}
-use Rattle.history.specs.Laws.ReadLaws.{read-keeps-clock, read-keeps-value}
+use Rattle.history.proofs.Laws.HistoryLaws.{clock-never-falls}
+use Rattle.history.proofs.Laws.ReadLaws.{read-keeps-clock, read-keeps-value}
 use Rattle.history.specs.Value.{Signatures, counts, value_at}
-use Rattle.history.specs.Laws.ValueLaws.{signed-once, made-counts, value_at-stays, value_at-walks-on}
+use Rattle.history.proofs.Laws.ValueLaws.{signed-once, made-counts, value_at-stays, value_at-walks-on}
 use Rattle.history.specs.Laws.Walk.{pass, clock_walk}
 use Rattle.log_image.specs.Sound.{base, after, consecutive, proper, all_proper, holds, sound_state}
 use Rattle.log_image.specs.Laws.ImageRoundTrip.{StateFits}
