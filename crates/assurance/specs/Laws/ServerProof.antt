@@ -24,7 +24,7 @@ use Rattle.history.specs.Value.{Signatures, value_at}
 use Rattle.history.proofs.Laws.ValueLaws.{value_at-stays}
 use Rattle.log_image.specs.Sound.{base, after}
 use Rattle.log_image.specs.State.{State, decode}
-use Rattle.log_store.specs.Laws.EachRecordLaws.{Each, each-drop, each_take, each-held}
+use Rattle.log_store.proofs.Laws.EachRecordLaws.{Each, each-drop, each_take, each-held}
 use Rattle.host.specs.Host.{held_of, entries_of, last_entries, start_call}
 use Rattle.assurance.specs.Laws.AcceptRows.{ones, ones-own}
 use Rattle.assurance.specs.Laws.Accepted.{Passed, count_of, accepted-passed}

@@ -18,7 +18,7 @@ use Rattle.history.specs.Value.{Signatures}
 use Rattle.log_image.specs.Laws.ImageRoundTrip.{decode-encode}
 use Rattle.log_image.specs.Sound.{base, distinct, oldest}
 use Rattle.log_image.specs.State.{Record, State, decode, encode}
-use Rattle.log_store.specs.Laws.EachRecordLaws.{Each, each_map, each_snoc, each-drop, each-updated, each-held, each-without, distinct-updated, held-id, held_keeps, raise-keeps}
+use Rattle.log_store.proofs.Laws.EachRecordLaws.{Each, each_map, each_snoc, each-drop, each-updated, each-held, each-without, distinct-updated, held-id, held_keeps, raise-keeps}
 use Rattle.log_store.specs.Effect.{updated, raised_to, confirmed_by, proved, opened, sealed_entry, raised, raised_by, incremented, advanced, without}
 use Rattle.host.specs.Laws.BatchLaws.{passed-fit}
 use Rattle.host.specs.Laws.DoneLaws.{settled-passed}

@@ -24,7 +24,7 @@ use Rattle.history.specs.Laws.Walk.{pass, clock_walk}
 use Rattle.log_image.specs.Sound.{base, after, consecutive, proper, all_proper, holds, sound_state}
 use Rattle.log_image.specs.Laws.ImageRoundTrip.{StateFits}
 use Rattle.log_image.specs.State.{State}
-use Rattle.log_store.specs.Laws.EachRecordLaws.{Each, each-drop, each_take}
+use Rattle.log_store.proofs.Laws.EachRecordLaws.{Each, each-drop, each_take}
 use Rattle.host.specs.Laws.HeldLaws.{held-within, entries-consecutive}
 use Rattle.host.specs.Host.{held_of, entries_of, logged_value}
 use Rattle.host.specs.Laws.LogEndsLaws.{proper-drop}
