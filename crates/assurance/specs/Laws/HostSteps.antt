@@ -21,10 +21,10 @@ use Rattle.log_image.specs.Laws.FitLaws.{start_fits, store-clock-fits, append-re
 use Rattle.log_image.specs.Laws.ImageRoundTrip.{StateFits, length-encode, encode-bytes, encode-sound, decode-encode, decode-fits, sound-decode, sound-laid-out}
 use Rattle.log_image.specs.Sound.{base, sound_state, sound}
 use Rattle.log_image.specs.State.{State, decode, encode}
-use Rattle.log_store.specs.Laws.RemoveStores.{without-fits}
-use Rattle.log_store.specs.Laws.RecordStores.{replaced_state, replaced-fits}
+use Rattle.log_store.proofs.Laws.RemoveStores.{without-fits}
+use Rattle.log_store.proofs.Laws.RecordStores.{replaced_state, replaced-fits}
 use Rattle.log_store.specs.Effect.{started, opened, raised, incremented, advanced, with_records, without}
-use Rattle.log_store.specs.Laws.RaiseStores.{raised-fits}
+use Rattle.log_store.proofs.Laws.RaiseStores.{raised-fits}
 use Rattle.host.specs.Laws.CloseLaws.{closed-sound}
 use Rattle.host.specs.Laws.ConfirmLaws.{confirmed-sound}
 use Rattle.host.specs.Laws.CountLaws.{counted-sound, counted-fits}

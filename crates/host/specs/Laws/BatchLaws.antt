@@ -19,8 +19,8 @@ use Rattle.log_image.specs.Laws.ImageRoundTrip.{StateFits}
 use Rattle.log_image.specs.Sound.{holds}
 use Rattle.log_image.specs.State.{Record, State}
 use Rattle.log_store.specs.Effect.{incremented}
-use Rattle.log_store.specs.Laws.Joined.{all_held}
-use Rattle.log_store.specs.Laws.RaiseStores.{incremented-fits, raised-fits}
+use Rattle.log_store.proofs.Laws.Joined.{all_held}
+use Rattle.log_store.proofs.Laws.RaiseStores.{incremented-fits, raised-fits}
 use Rattle.host.specs.Host.{current_of, request_refusal, bad_batch, Asked, asked, asked_from, Batch, none_judged, judge_next, judged_batch}
 use Rattle.host.specs.Laws.RefusalLaws.{RequestPassed, request-passed}
 

@@ -5,7 +5,7 @@ use Rattle.forms.specs.declared.terms.CounterId.{CounterId}
 use Rattle.log_image.specs.State.{State}
 use Rattle.log_image.specs.Sound.{sound_state}
 use Rattle.log_store.specs.Effect.{without}
-use Rattle.log_store.specs.Laws.EachRecordLaws.{each-without, oldest-without, distinct_without}
+use Rattle.log_store.proofs.Laws.EachRecordLaws.{each-without, oldest-without, distinct_without}
 use Rattle.host.specs.Host.{closed_state}
 use Rattle.host.specs.Laws.CutLaws.{Recut, cut_parts}
 use Rattle.host.specs.Laws.SoundParts.{SoundState, sound-parts, sound-whole}

@@ -7,7 +7,7 @@ use Rattle.forms.specs.declared.confirmation.Confirmation.{Confirmation}
 use Rattle.log_image.specs.State.{State}
 use Rattle.log_image.specs.Sound.{base, after, sound_state, record_of}
 use Rattle.log_store.specs.Effect.{confirmed_by}
-use Rattle.log_store.specs.Laws.EachRecordLaws.{each-updated, oldest-updated, distinct-updated, confirmation-keeps}
+use Rattle.log_store.proofs.Laws.EachRecordLaws.{each-updated, oldest-updated, distinct-updated, confirmation-keeps}
 use Rattle.host.specs.Host.{replaced, confirmed_state, confirm_refusal}
 use Rattle.host.specs.Laws.HeldLaws.{later-chains, later-end, current-stored}
 use Rattle.host.specs.Laws.CutLaws.{Recut, cut_parts}

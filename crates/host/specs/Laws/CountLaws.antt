@@ -5,9 +5,9 @@ use Rattle.forms.specs.declared.terms.CounterId.{CounterId}
 use Rattle.log_image.specs.Laws.ImageRoundTrip.{StateFits}
 use Rattle.log_image.specs.Sound.{base, consecutive, sound_state}
 use Rattle.log_image.specs.State.{State}
-use Rattle.log_store.specs.Laws.EachRecordLaws.{Each, each-held, each-updated, distinct-updated, held_keeps, KeepsHeld, oldest-kept}
+use Rattle.log_store.proofs.Laws.EachRecordLaws.{Each, each-held, each-updated, distinct-updated, held_keeps, KeepsHeld, oldest-kept}
 use Rattle.log_store.specs.Effect.{proved}
-use Rattle.log_store.specs.Laws.RecordStores.{record-of-fits, updated-fits}
+use Rattle.log_store.proofs.Laws.RecordStores.{record-of-fits, updated-fits}
 use Rattle.host.specs.Host.{counted}
 use Rattle.host.specs.Laws.SoundParts.{Chained, SoundState, sound-parts, sound-whole}
 

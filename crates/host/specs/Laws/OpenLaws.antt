@@ -18,7 +18,7 @@ use Rattle.forms.specs.declared.terms.GlobalClock.{GlobalClock}
 use Rattle.log_image.specs.State.{State}
 use Rattle.log_image.specs.Sound.{base, consecutive, after, sound_state}
 use Rattle.log_store.specs.Effect.{opened}
-use Rattle.log_store.specs.Laws.EachRecordLaws.{Each, each_snoc, distinct_snoc, oldest-snoc}
+use Rattle.log_store.proofs.Laws.EachRecordLaws.{Each, each_snoc, distinct_snoc, oldest-snoc}
 use Rattle.host.specs.Host.{named_after, open_refusal}
 use Rattle.host.specs.Laws.RefusalLaws.{OpenPassed, open-passed}
 use Rattle.host.specs.Laws.SoundParts.{ChainsTo, Chained, SoundState, sound-parts, sound-whole}

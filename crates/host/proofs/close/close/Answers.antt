@@ -6,9 +6,9 @@ use Rattle.log_image.specs.Laws.ImageRoundTrip.{StateFits, sound-decode}
 use Rattle.log_image.specs.Sound.{record_of, sound}
 use Rattle.log_image.specs.State.{decode, encode}
 use Rattle.log_store.specs.Effect.{with_records, without}
-use Rattle.log_store.specs.Laws.CutStores.{cut-stored}
-use Rattle.log_store.specs.Laws.EachRecordLaws.{oldest-without}
-use Rattle.log_store.specs.Laws.RemoveStores.{removed-proofs, removed-stored, without-fits}
+use Rattle.log_store.proofs.Laws.CutStores.{cut-stored}
+use Rattle.log_store.proofs.Laws.EachRecordLaws.{oldest-without}
+use Rattle.log_store.proofs.Laws.RemoveStores.{removed-proofs, removed-stored, without-fits}
 use Rattle.log_store.specs.Store.{log_cut, proofs_of, record_removed}
 use Rattle.host.specs.Laws.FittingLaws.{image-of, state-fits}
 use Rattle.host.specs.Host.{close_refusal, closed_state}

@@ -4,7 +4,7 @@ use Rattle.forms.specs.Bytes.{Bytes}
 use Rattle.forms.specs.Limits.{max_counters}
 use Rattle.log_image.specs.Sound.{sound}
 use Rattle.log_image.specs.State.{decode}
-use Rattle.log_store.specs.Laws.RecordStores.{added-counted, added-stored}
+use Rattle.log_store.proofs.Laws.RecordStores.{added-counted, added-stored}
 use Rattle.log_store.specs.Store.{counters_with, record_added}
 use Rattle.log_store.specs.Effect.{opened}
 use Rattle.host.specs.Laws.FittingLaws.{image-of, record-room, state-fits}

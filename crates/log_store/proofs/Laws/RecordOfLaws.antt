@@ -9,7 +9,7 @@ use Rattle.forms.specs.declared.terms.CounterId.{CounterId}
 use Rattle.log_image.specs.Laws.PassLaws.{distinct-parts}
 use Rattle.log_image.specs.Sound.{holds, distinct, record_of}
 use Rattle.log_image.specs.State.{Record}
-use Rattle.log_store.specs.Laws.EachRecordLaws.{Keeps, record-own, record-other}
+use Rattle.log_store.proofs.Laws.EachRecordLaws.{Keeps, record-own, record-other}
 use Rattle.log_store.specs.Effect.{updated, without}
 
 -- two ids that a third is the same as, and is not

@@ -11,7 +11,7 @@ use Rattle.forms.specs.declared.request.Request.{Request}
 use Rattle.forms.specs.Request.{RequestsFit, names, nonce_of}
 use Rattle.forms.specs.Terms.{same_id}
 use Rattle.history.specs.History.{DigestOfNone, Given, HistoryEvent, increment, read, list, bare, clock_after, made, increment_at, Stands, ReadStands}
-use Rattle.history.specs.Laws.HistoryLaws.{clock-runs-on, stands-within, made-stands, increment-later}
+use Rattle.history.proofs.Laws.HistoryLaws.{clock-runs-on, stands-within, made-stands, increment-later}
 use Rattle.history.specs.Nonce.{InRequest, Has, New}
 
 -- a counter's request among some has its nonce

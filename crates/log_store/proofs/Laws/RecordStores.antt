@@ -17,10 +17,10 @@ use Rattle.log_image.specs.Laws.ImageParts.{RecordsFit}
 use Rattle.log_image.specs.Laws.ImageRoundTrip.{StateFits, decode-encode, encode-bytes, encode-decode, encode-laid-out, laid-out-parts}
 use Rattle.log_image.specs.Sound.{holds, index_of, laid_out, record_of}
 use Rattle.log_image.specs.State.{Record, State, records_at, counter_count, counters_place, decode, encode}
-use Rattle.log_store.specs.Laws.StoreLaws.{append-record, replace-record}
-use Rattle.log_store.specs.Laws.EachRecordLaws.{updated_set}
+use Rattle.log_store.proofs.Laws.StoreLaws.{append-record, replace-record}
+use Rattle.log_store.proofs.Laws.EachRecordLaws.{updated_set}
 use Rattle.log_store.specs.Effect.{Change, changed_by, confirmed_by, opened, updated_state}
-use Rattle.log_store.specs.Laws.FoundLaws.{found-record, image-counters, image-has, image_holds}
+use Rattle.log_store.proofs.Laws.FoundLaws.{found-record, image-counters, image-has, image_holds}
 use Rattle.log_store.specs.Store.{counters_with, index_in, record_added, record_changed, record_place}
 
 -- a state with another record at an index

@@ -13,10 +13,10 @@ use Rattle.log_image.specs.Laws.ImageRoundTrip.{StateFits, decode-encode, encode
 use Rattle.log_image.specs.Laws.RecordsLaws.{holds-index}
 use Rattle.log_image.specs.Sound.{holds, index_of, laid_out, record_of}
 use Rattle.log_image.specs.State.{Record, State, records_at, records_bytes, counter_count, decode, encode, counters_place}
-use Rattle.log_store.specs.Laws.StoreLaws.{length_removed, remove-record}
+use Rattle.log_store.proofs.Laws.StoreLaws.{length_removed, remove-record}
 use Rattle.log_store.specs.Store.{index_in, proofs_of, record_place, record_removed, vacated}
 use Rattle.log_store.specs.Effect.{with_records, without}
-use Rattle.log_store.specs.Laws.FoundLaws.{few-counters, found-record, image-has, image_holds}
+use Rattle.log_store.proofs.Laws.FoundLaws.{few-counters, found-record, image-has, image_holds}
 
 -- ---- the records left
 

@@ -11,9 +11,9 @@ use Rattle.forms.specs.Terms.{global_clock}
 use Rattle.history.specs.History.{HistoryEvent}
 use Rattle.history.specs.Openings.{number_of, openings_between}
 use Rattle.history.specs.Value.{Signatures, counts, value_at}
-use Rattle.history.specs.Laws.ValueLaws.{value_at-largest, value_at-within, value_at-walks-on}
+use Rattle.history.proofs.Laws.ValueLaws.{value_at-largest, value_at-within, value_at-walks-on}
 use Rattle.history.specs.Laws.Walk.{pass, pass_running, clock_walk}
-use Rattle.history.specs.Laws.WalkLaws.{walk-last, walk-part, walk-still}
+use Rattle.history.proofs.Laws.WalkLaws.{walk-last, walk-part, walk-still}
 
 module _ (counting : GlobalClock → Bool) where
   -- k readings and then m

@@ -12,10 +12,10 @@ use Rattle.forms.specs.declared.request.Request.{Request}
 use Rattle.forms.specs.Request.{names, names_twice, nonce_of, before_of}
 use Rattle.forms.specs.Terms.{counter_id, global_clock, same_id}
 use Rattle.history.specs.History.{Given, HistoryEvent, carried, clock_after, Made, made, unmade, increment_at}
-use Rattle.history.specs.Laws.HistoryLaws.{increment-stays}
+use Rattle.history.proofs.Laws.HistoryLaws.{increment-stays}
 use Rattle.history.specs.Value.{Signatures, signed_among, carries_signed, counts, largest, value_at, Largest}
 use Rattle.history.specs.Laws.Walk.{pass, clock_walk}
-use Rattle.history.specs.Laws.WalkLaws.{walk-last, walk-append, walk-agree}
+use Rattle.history.proofs.Laws.WalkLaws.{walk-last, walk-append, walk-agree}
 
 -- an owner-signed request for a counter that stands among some requests
 pub record SignedIn (signed : Signatures) (id : CounterId) (qs : List Request) : Type 0 where
