@@ -1,7 +1,5 @@
 -- `console::judge::nonce_among` meets its contract: no entry passed is the one looked for. Assumes nothing.
-use mathlib.Core.Path.{◌≡◌}
-use mathlib.Core.List.{List}
-use Prim.Native.Nat.{ℕ, ◌-◌, ◌≤◌}
+use Rattle.std.proofs.Common.{◌≡◌, List, ℕ, ◌-◌, ◌≤◌}
 use Rattle.forms.specs.Entry.{entries_at, offset_at}
 use Rattle.forms.specs.Limits.{image_log_offset}
 use Rattle.console.specs.Laws.StepLaws.{FoundNonce}

@@ -1,6 +1,5 @@
 -- `console::session::close_line` meets its contract: the answer is stored behind the text. Assumes nothing.
-use mathlib.Core.Path.{refl}
-use native.Mathlib.Omega.{arith}
+use Rattle.std.proofs.Common.{refl, arith}
 use Rattle.console.specs.Laws.AnswerLaws.{answer-short}
 use Rattle.console.specs.Lines.{pending_of}
 use Rattle.console.specs.Laws.LinesLaws.{took-closed}

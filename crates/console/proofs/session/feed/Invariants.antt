@@ -1,7 +1,5 @@
 -- `console::session::feed` meets its contract: after i turns the session stands where i bytes of the part leave it. Assumes nothing.
-use mathlib.Core.Path.{◌≡◌}
-use Prim.Native.Nat.{◌-◌}
-use lib.ListN.{length}
+use Rattle.std.proofs.Common.{◌≡◌, ◌-◌, length}
 use Rattle.console.specs.Laws.LinesLaws.{Feeding, session_at}
 use Rattle.console.specs.Session.{line_answered}
 use Rattle.console.specs.Step.{max_answer}
