@@ -18,7 +18,7 @@ use Rattle.forms.specs.declared.terms.GlobalClock.{GlobalClock}
 use Rattle.validity.specs.Proof.{Fields, fields_len, shape_of}
 use Rattle.validity.specs.declared.proof.Kind.{Kind}
 use Rattle.desk_table.specs.Desk.{all_yes, verdicts_for, verified}
-use Rattle.desk_table.specs.Laws.VerdictsLaws.{verdicts-few}
+use Rattle.desk_table.proofs.Laws.VerdictsLaws.{verdicts-few}
 use Rattle.log_image.specs.Laws.EndLaws.{first-within}
 use Rattle.log_image.specs.Laws.ImageRoundTrip.{laid-out-parts, sound-laid-out}
 use Rattle.log_image.specs.Laws.LogLaws.{entries-first}
