@@ -25,10 +25,10 @@ use Rattle.log_image.specs.Sound.{base, after, consecutive, proper, all_proper, 
 use Rattle.log_image.specs.Laws.ImageRoundTrip.{StateFits}
 use Rattle.log_image.specs.State.{State}
 use Rattle.log_store.proofs.Laws.EachRecordLaws.{Each, each-drop, each_take}
-use Rattle.host.specs.Laws.HeldLaws.{held-within, entries-consecutive}
+use Rattle.host.proofs.Laws.HeldLaws.{held-within, entries-consecutive}
 use Rattle.host.specs.Host.{held_of, entries_of, logged_value}
-use Rattle.host.specs.Laws.LogEndsLaws.{proper-drop}
-use Rattle.host.specs.Laws.SoundParts.{sound-parts}
+use Rattle.host.proofs.Laws.LogEndsLaws.{proper-drop}
+use Rattle.host.proofs.Laws.SoundParts.{sound-parts}
 use Rattle.assurance.specs.DeskList.{Item, request_of, Opening}
 use Rattle.assurance.specs.Laws.HostProofs.{consecutive-take, entries-count}
 use Rattle.assurance.specs.Laws.ServerLaws.{Certified}

@@ -12,7 +12,7 @@ use Rattle.validity.specs.Laws.ProofLaws.{count-bound}
 use Rattle.validity.specs.declared.proof.Proof.{Proof}
 use Rattle.desk_table.specs.declared.answer.Answer.{Answer}
 use Rattle.desk_table.specs.Desk.{is_no, verdicts_before, verdict_count, bad_confirmation, later_checks, accepted, judged, confirmation}
-use Rattle.desk_table.specs.Laws.VerdictsLaws.{before-bound}
+use Rattle.desk_table.proofs.Laws.VerdictsLaws.{before-bound}
 use Rattle.desk.specs.Laws.LogVerdictsLaws.{counted-verdicts}
 use Rattle.desk.specs.Laws.Progress.{Progress, progress_at}
 use Rattle.desk.proofs.verify.judge.Goals as goal

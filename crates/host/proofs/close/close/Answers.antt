@@ -10,11 +10,11 @@ use Rattle.log_store.proofs.Laws.CutStores.{cut-stored}
 use Rattle.log_store.proofs.Laws.EachRecordLaws.{oldest-without}
 use Rattle.log_store.proofs.Laws.RemoveStores.{removed-proofs, removed-stored, without-fits}
 use Rattle.log_store.specs.Store.{log_cut, proofs_of, record_removed}
-use Rattle.host.specs.Laws.FittingLaws.{image-of, state-fits}
+use Rattle.host.proofs.Laws.FittingLaws.{image-of, state-fits}
 use Rattle.host.specs.Host.{close_refusal, closed_state}
-use Rattle.host.specs.Laws.RefusalLaws.{ClosePassed, close_passed}
-use Rattle.host.specs.Laws.SettledLaws.{ends-unsound, ends-refused, ends-done}
-use Rattle.host.specs.Laws.SoundParts.{sound-parts}
+use Rattle.host.proofs.Laws.RefusalLaws.{ClosePassed, close_passed}
+use Rattle.host.proofs.Laws.SettledLaws.{ends-unsound, ends-refused, ends-done}
+use Rattle.host.proofs.Laws.SoundParts.{sound-parts}
 use Rattle.host.proofs.close.close.Goals as goal
 
 pub returns-then-not-sound : goal.returns-then-not-sound

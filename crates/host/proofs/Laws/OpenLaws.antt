@@ -20,8 +20,8 @@ use Rattle.log_image.specs.Sound.{base, consecutive, after, sound_state}
 use Rattle.log_store.specs.Effect.{opened}
 use Rattle.log_store.proofs.Laws.EachRecordLaws.{Each, each_snoc, distinct_snoc, oldest-snoc}
 use Rattle.host.specs.Host.{named_after, open_refusal}
-use Rattle.host.specs.Laws.RefusalLaws.{OpenPassed, open-passed}
-use Rattle.host.specs.Laws.SoundParts.{ChainsTo, Chained, SoundState, sound-parts, sound-whole}
+use Rattle.host.proofs.Laws.RefusalLaws.{OpenPassed, open-passed}
+use Rattle.host.proofs.Laws.SoundParts.{ChainsTo, Chained, SoundState, sound-parts, sound-whole}
 
 -- where no entry is the counter's, its chain ends where it begins. Only open needs it, and has it from the row of 28 alone: the other rows and
 -- the soundness before leave room for entries of a counter that was closed.

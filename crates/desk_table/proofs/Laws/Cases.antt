@@ -29,7 +29,7 @@ use Rattle.desk_table.specs.Lowest.{lowest_from, lowest}
 use Rattle.desk_table.specs.Desk.{all_yes, zero_or_one, verdicts_to, is_own, running_to, bad_wanted, bad_verdicts, bad_confirmation, certificate_denied}
 use Rattle.desk_table.specs.Desk.{module_denied, forged, repeated, closes_elsewhere, wrong_reading, wrong_closing, breaks_chain, closing}
 use Rattle.desk_table.specs.Desk.{lowest_entry, later_checks, accepted, judged, verified}
-use Rattle.desk_table.specs.Laws.DeskLaws.{answer_of, verified-parsed}
+use Rattle.desk_table.proofs.Laws.DeskLaws.{answer_of, verified-parsed}
 
 -- ---- a row
 

@@ -7,8 +7,8 @@ use Rattle.log_image.specs.Sound.{sound_state}
 use Rattle.log_store.specs.Effect.{without}
 use Rattle.log_store.proofs.Laws.EachRecordLaws.{each-without, oldest-without, distinct_without}
 use Rattle.host.specs.Host.{closed_state}
-use Rattle.host.specs.Laws.CutLaws.{Recut, cut_parts}
-use Rattle.host.specs.Laws.SoundParts.{SoundState, sound-parts, sound-whole}
+use Rattle.host.proofs.Laws.CutLaws.{Recut, cut_parts}
+use Rattle.host.proofs.Laws.SoundParts.{SoundState, sound-parts, sound-whole}
 
 records-left : (st : State) (id : CounterId) → SoundState st → Recut st (without st.records id)
 records-left st id s =

@@ -9,7 +9,7 @@ use Rattle.log_store.proofs.Laws.EachRecordLaws.{Each, each-held, each-updated, 
 use Rattle.log_store.specs.Effect.{proved}
 use Rattle.log_store.proofs.Laws.RecordStores.{record-of-fits, updated-fits}
 use Rattle.host.specs.Host.{counted}
-use Rattle.host.specs.Laws.SoundParts.{Chained, SoundState, sound-parts, sound-whole}
+use Rattle.host.proofs.Laws.SoundParts.{Chained, SoundState, sound-parts, sound-whole}
 
 keeps : KeepsHeld proved
 keeps r = refl

@@ -9,10 +9,10 @@ use Rattle.log_image.specs.Sound.{base, after, sound_state, record_of}
 use Rattle.log_store.specs.Effect.{confirmed_by}
 use Rattle.log_store.proofs.Laws.EachRecordLaws.{each-updated, oldest-updated, distinct-updated, confirmation-keeps}
 use Rattle.host.specs.Host.{replaced, confirmed_state, confirm_refusal}
-use Rattle.host.specs.Laws.HeldLaws.{later-chains, later-end, current-stored}
-use Rattle.host.specs.Laws.CutLaws.{Recut, cut_parts}
-use Rattle.host.specs.Laws.RefusalLaws.{ConfirmPassed, confirm-passed}
-use Rattle.host.specs.Laws.SoundParts.{Chained, SoundState, sound-parts, sound-whole}
+use Rattle.host.proofs.Laws.HeldLaws.{later-chains, later-end, current-stored}
+use Rattle.host.proofs.Laws.CutLaws.{Recut, cut_parts}
+use Rattle.host.proofs.Laws.RefusalLaws.{ConfirmPassed, confirm-passed}
+use Rattle.host.proofs.Laws.SoundParts.{Chained, SoundState, sound-parts, sound-whole}
 
 confirmed-records : (st : State) (c : Confirmation) (verdict : ℕ) → SoundState st → ConfirmPassed st c verdict → Recut st (replaced st.records c)
 confirmed-records st c verdict s p =

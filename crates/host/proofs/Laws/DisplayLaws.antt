@@ -18,8 +18,8 @@ use Rattle.log_image.specs.Laws.SoundLaws.{records_of}
 use Rattle.log_image.specs.State.{Record, records_at, counter_count, decode}
 use Rattle.host.specs.declared.answer.Figures.{Figures}
 use Rattle.host.specs.Host.{read_refusal, read_call, current_of}
-use Rattle.host.specs.Laws.IndexLaws.{bytes-sound, held-counter}
-use Rattle.host.specs.Laws.SettledLaws.{answered-done}
+use Rattle.host.proofs.Laws.IndexLaws.{bytes-sound, held-counter}
+use Rattle.host.proofs.Laws.SettledLaws.{answered-done}
 
 -- the counter that the record at an index of some records names
 abbrev id_at : List ℕ → ℕ → ℕ → CounterId

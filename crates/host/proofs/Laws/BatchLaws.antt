@@ -22,7 +22,7 @@ use Rattle.log_store.specs.Effect.{incremented}
 use Rattle.log_store.proofs.Laws.Joined.{all_held}
 use Rattle.log_store.proofs.Laws.RaiseStores.{incremented-fits, raised-fits}
 use Rattle.host.specs.Host.{current_of, request_refusal, bad_batch, Asked, asked, asked_from, Batch, none_judged, judge_next, judged_batch}
-use Rattle.host.specs.Laws.RefusalLaws.{RequestPassed, request-passed}
+use Rattle.host.proofs.Laws.RefusalLaws.{RequestPassed, request-passed}
 
 -- ---- a batch that is not refused as a whole
 

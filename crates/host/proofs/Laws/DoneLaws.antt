@@ -6,7 +6,7 @@ use Rattle.log_image.specs.Sound.{sound}
 use Rattle.log_image.specs.State.{State}
 use Rattle.host.specs.declared.answer.Figures.{Figures}
 use Rattle.host.specs.Host.{Settled, answered, settled}
-use Rattle.host.specs.Laws.SettledLaws.{settled-done}
+use Rattle.host.proofs.Laws.SettledLaws.{settled-done}
 
 -- the figures that a call answers with, by whether the image is sound and whether no refusal was given
 abbrev ended : Bool → Bool → ℕ → ℕ → Figures
