@@ -24,9 +24,9 @@ use Rattle.validity.specs.declared.proof.Proof.{Proof}
 use Rattle.desk_table.specs.Answer.{figures}
 use Rattle.desk_table.specs.declared.answer.Answer.{Answer}
 use Rattle.desk_table.specs.Desk.{zero_or_one, verdicts_to, is_own, running_to, bad_wanted, bad_verdicts, bad_confirmation, certificate_denied, module_denied, forged, repeated, closes_elsewhere, wrong_reading, wrong_closing, breaks_chain, closing, later_checks, accepted, judged, verified}
-use Rattle.desk_table.specs.Laws.DeskLaws.{answer_of, verified-parsed}
+use Rattle.desk_table.proofs.Laws.DeskLaws.{answer_of, verified-parsed}
 use Rattle.desk_table.specs.Lowest.{lowest, lowest_from}
-use Rattle.desk_table.specs.Laws.LowestLaws.{lowest-none}
+use Rattle.desk_table.proofs.Laws.LowestLaws.{lowest-none}
 use Rattle.history.specs.History.{increments, clock_after, increment_at}
 use Rattle.worked_lists.specs.Worked.DeskExample.{nonce, seven, nine, start, opened-at, signed, opening, later, request, short, to-100, to-101, to-102, to-104, to-105, entry_for, read_at, three, two, one, five, by_read, left_out, by-increment, since-opening, unraised, items}
 use Rattle.assurance.specs.DeskList.{Call, Item, At, history, shown, kind_of}
