@@ -19,7 +19,8 @@ loop-left-init c =
 within : (c : After-count_at-requests) → (c.loop-left.offset ≤ image_len) × (c.count_at-requests.result ≤ max_requests)
 within c =
     let turn = c.loop-left in
-    let bounds = turn-within c.args.image.now c.args.count turn.left turn.offset c.requires.0 c.requires.1 c.loop-left-test.true turn.invariant.0 turn.invariant.1 in
+    let bounds = turn-within c.args.image.now c.args.count turn.left turn.offset c.requires.0 c.requires.1 c.loop-left-test.true turn.invariant.0
+    turn.invariant.1 in
     (bounds.0, subst (λ (n : ℕ). n ≤ max_requests) (sym c.count_at-requests.ensures) bounds.1)
 
 pub overflow_add-offset : goal.overflow_add-offset
@@ -36,7 +37,8 @@ overflow_mul-index c =
 
 pub overflow_add-offset-then-index-requests-2 : goal.overflow_add-offset-then-index-requests-2
 overflow_add-offset-then-index-requests-2 c =
-    let bounds = within (goal.at.overflow_add-offset-then-index-requests-2 c).After-count_at-requests in omega (arith, bounds.0, bounds.1, c.if-index-requests.true)
+    let bounds = within (goal.at.overflow_add-offset-then-index-requests-2 c).After-count_at-requests in
+    omega (arith, bounds.0, bounds.1, c.if-index-requests.true)
 
 pub returns-then-index-requests : goal.returns-then-index-requests
 returns-then-index-requests c =
@@ -55,7 +57,8 @@ returns-then-index-requests c =
 
 pub overflow_add-offset-in-loop-left : goal.overflow_add-offset-in-loop-left
 overflow_add-offset-in-loop-left c =
-    let bounds = within (goal.at.overflow_add-offset-in-loop-left c).After-count_at-requests in omega (arith, bounds.0, bounds.1, c.entry_len-offset.ensures)
+    let bounds = within (goal.at.overflow_add-offset-in-loop-left c).After-count_at-requests in
+    omega (arith, bounds.0, bounds.1, c.entry_len-offset.ensures)
 
 -- a turn that goes on has not found it
 pub loop-left-preserved : goal.loop-left-preserved
@@ -72,7 +75,8 @@ loop-left-preserved c =
           turn.invariant.2 nonce
           (elim c.if-reading_at-t.branch [
             | then-reading_at-t+else-index-requests w ↦
-                let at = w.find-index.ensures ∙ ap (λ (n : ℕ). place_of c.args.id (requests_at s (turn.offset + head_len) n)) c.count_at-requests.ensures in
+                let at = w.find-index.ensures ∙ ap (λ (n : ℕ). place_of c.args.id (requests_at s (turn.offset + head_len) n))
+                c.count_at-requests.ensures in
                 found-elsewhere c.args.id c.args.t s turn.offset turn.left nonce some w.find-index.result at
                 (subst (λ (n : ℕ). n ≤ w.find-index.result) c.count_at-requests.ensures w.if-index-requests.false) others
             | else-reading_at-t w ↦

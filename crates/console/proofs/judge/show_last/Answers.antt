@@ -9,7 +9,10 @@ pub returns-then-written-ne-NONE : goal.returns-then-written-ne-NONE
 unfolding ran empty_output
 returns-then-written-ne-NONE c =
     let a = c.args in
-    record { value = last-line-refused a.image.now a.id a.t c.last-written.result c.last-written.ensures.value c.if-written-ne-NONE.true; image_after = c.last-written.ensures.image_after }
+    record {
+      value = last-line-refused a.image.now a.id a.t c.last-written.result c.last-written.ensures.value c.if-written-ne-NONE.true;
+      image_after = c.last-written.ensures.image_after;
+    }
 
 pub returns : goal.returns
 unfolding ran empty_output

@@ -8,7 +8,10 @@ pub returns-then-written-ne-NONE : goal.returns-then-written-ne-NONE
 unfolding ran empty_output
 returns-then-written-ne-NONE c =
     let a = c.args in
-    record { value = prove-line-refused a.image.now a.byte a.id c.prove-written.result c.prove-written.ensures.value c.if-written-ne-NONE.true; image_after = c.prove-written.ensures.image_after }
+    record {
+      value = prove-line-refused a.image.now a.byte a.id c.prove-written.result c.prove-written.ensures.value c.if-written-ne-NONE.true;
+      image_after = c.prove-written.ensures.image_after;
+    }
 
 pub returns : goal.returns
 unfolding ran empty_output

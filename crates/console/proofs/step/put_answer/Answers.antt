@@ -15,7 +15,8 @@ number_at c =
     ∙ stored-fits a.text.now a.at (numeral a.figures.number) (omega (arith, length-numeral 10 a.figures.number, c.requires))
 
 -- the value is whole behind the space
-value-at : (c : After-put_numeral-value_end) → c.put_numeral-value_end.result ≡ c.put_numeral-number_end.result + 1 + length (numeral c.args.figures.value)
+value-at : (c : After-put_numeral-value_end) → c.put_numeral-value_end.result
+    ≡ c.put_numeral-number_end.result + 1 + length (numeral c.args.figures.value)
 value-at c =
     let a = c.args in
     let number = number_at (goal.at.After-put_numeral-value_end c).After-put_numeral-number_end in

@@ -23,7 +23,8 @@ returns-then-shown-ne-NONE c =
     record {
       value = increment-line a.image.now a.nonce a.id a.before _ result batch c.increment-shown.ensures.value result.number
           (sym (ap (λ (b : Bool). cond b (get_or result.numbers 0 0) result.number) (ne_eqb result.number 0 c.if-shown-ne-NONE.true)));
-      image_after = increment-image a.image.now a.nonce a.id a.before _ result batch c.increment-shown.ensures.value _ c.increment-shown.ensures.image_after;
+      image_after = increment-image a.image.now a.nonce a.id a.before _ result batch c.increment-shown.ensures.value _
+          c.increment-shown.ensures.image_after;
     }
 
 pub returns : goal.returns
@@ -34,5 +35,6 @@ returns c =
     record {
       value = increment-line a.image.now a.nonce a.id a.before _ result batch c.increment-shown.ensures.value (get_or result.numbers 0 0)
           (sym (ap (λ (b : Bool). cond b (get_or result.numbers 0 0) result.number) (eq-eqb result.number 0 c.if-shown-ne-NONE.false)));
-      image_after = increment-image a.image.now a.nonce a.id a.before _ result batch c.increment-shown.ensures.value _ c.increment-shown.ensures.image_after;
+      image_after = increment-image a.image.now a.nonce a.id a.before _ result batch c.increment-shown.ensures.value _
+          c.increment-shown.ensures.image_after;
     }
