@@ -3,6 +3,5 @@ pub mod BenchList
 pub mod DeskList
 pub mod HostList
 pub mod Invoice
-pub mod Laws
 pub mod ProgramList
 pub mod ServerList

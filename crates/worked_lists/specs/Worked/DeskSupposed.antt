@@ -28,7 +28,7 @@ use Rattle.log_image.specs.Laws.ImageParts.{bytes-append, bytes-log}
 use Rattle.worked_lists.specs.Worked.DeskExample.{nonce, seven, start, signed, opening, later, short, short_none, to-100, to-101, to-102, to-104, to-105, entry_for, read_at, three, two, one, five, by_read, left_out, by-increment, since-opening, unraised, fits-100, fits-101, fits-102, fits-104, fits-105, items}
 use Rattle.assurance.specs.DeskList.{Call, Item, event, confirmed, call, history, Accepted, call_entry, request_of, owner_said, Certifies, Truth, Unopened, Opening, MadeFrom, Supposed, Clash, Clashed, Lent}
 use Rattle.worked_lists.specs.Worked.DeskShown.{the-list, computed, Everywhere, everywhere-at, UpTo, up-to-at, other-id, by-read-shows, left-out-refused}
-use Rattle.assurance.specs.Laws.ServerAlong.{◌and◌}
+use Rattle.assurance.proofs.Laws.ServerAlong.{◌and◌}
 
 -- ---- true verdicts
 

@@ -18,11 +18,11 @@ use Rattle.history.specs.Openings.{number_of, openings_between}
 use Rattle.history.specs.Value.{signed_among, counts, value_at}
 use Rattle.worked_lists.specs.Worked.DeskExample.{nonce, seven, nine, start, opened-at, signed, opening, later, request, short, short_none, to-100, by_read, by-increment, since-opening, unraised, fits-100, items}
 use Rattle.assurance.specs.DeskList.{Call, call, At, history, shown, Accepted, closes, Opening, Supposed, Sound, Counted, Fresh}
-use Rattle.assurance.specs.Laws.DeskProof.{desk-claim}
+use Rattle.assurance.proofs.Laws.DeskProof.{desk-claim}
 use Rattle.worked_lists.specs.Worked.DeskShown.{the-list, computed, everywhere-at, by-read-shows, by-increment-shows, since-opening-shows, unraised-shows}
 use Rattle.worked_lists.specs.Worked.DeskSupposed.{TrueAt, all_true, opens, supposed, lent, ApartAt, all_apart, no-clash}
-use Rattle.assurance.specs.Laws.ListLaws.{opening-once}
-use Rattle.assurance.specs.Laws.ServerAlong.{◌and◌}
+use Rattle.assurance.proofs.Laws.ListLaws.{opening-once}
+use Rattle.assurance.proofs.Laws.ServerAlong.{◌and◌}
 
 -- ---- what the claim says of it
 

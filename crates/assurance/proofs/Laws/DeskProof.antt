@@ -1,11 +1,11 @@
 -- The desk's half of demand 3, proved: `DeskClaim` of DeskList.antt. Assumes nothing.
 use Rattle.std.specs.Prelude.{refl}
 use Rattle.std.proofs.Common.{inl, inr, ⊎_elim, arith}
-use Rattle.assurance.specs.Laws.Accepted.{accepted-passed}
-use Rattle.assurance.specs.Laws.DeskFreshness.{call-fresh}
+use Rattle.assurance.proofs.Laws.Accepted.{accepted-passed}
+use Rattle.assurance.proofs.Laws.DeskFreshness.{call-fresh}
 use Rattle.assurance.specs.DeskList.{DeskClaim}
-use Rattle.assurance.specs.Laws.DeskSoundness.{call-openings, accepted-sound}
-use Rattle.assurance.specs.Laws.EntryCounts.{entries-linked}
+use Rattle.assurance.proofs.Laws.DeskSoundness.{call-openings, accepted-sound}
+use Rattle.assurance.proofs.Laws.EntryCounts.{entries-linked}
 
 -- each accepted call shows the history's value where demand 3's suppositions of its counter hold; where its own verdicts are true, its entries are the
 -- history's, and so are the openings, and it is fresh; or a clash is exhibited
