@@ -2,8 +2,6 @@ pub mod BenchInputWitness
 pub mod BenchWitness
 pub mod CloseWitness
 pub mod DeskExample
-pub mod DeskShown
-pub mod DeskSupposed
 pub mod DeskWitness
 pub mod HostListWitness
 pub mod InvoiceWitness
