@@ -1,5 +1,8 @@
 pub mod BenchInputWitness
 pub mod BenchWitness
+pub mod CallExample
+pub mod CallSupposed
+pub mod CallWitness
 pub mod CloseWitness
 pub mod DeskExample
 pub mod DeskWitness

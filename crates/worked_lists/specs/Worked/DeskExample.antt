@@ -144,7 +144,7 @@ bytes_of zero b low k = lit< tt
 bytes_of (suc n) b low zero = low
 bytes_of (suc n) b low (suc k) = bytes_of n b low k
 
-fits : (b id before : ℕ) → b < 256 → id < 2 ^ 32 → before < 2 ^ 32 → RequestFits (request b (counter_id id) before)
+pub fits : (b id before : ℕ) → b < 256 → id < 2 ^ 32 → before < 2 ^ 32 → RequestFits (request b (counter_id id) before)
 unfolding nonce request
 fits b id before byte small low = record { nonce = refl; bytes = bytes_of 20 b byte; id = small; before = low }
 

@@ -50,7 +50,7 @@ the-terms : Unit {0}
 unfolding nonce seven nine start signed opening later request to-101 to-102 to-104 to-105 entry_for read_at
 the-terms = tt
 
-the-list : Unit {0}
+unfoldable pub the-list : Unit {0}
 unfolding the-terms three two one five by_read left_out by-increment since-opening unraised items
 the-list = tt
 
@@ -75,7 +75,7 @@ unfolding wrong_closing breaks_chain closing judged verified lowest_from
 the-table = tt
 
 -- all of it
-computed : Unit {0}
+unfoldable pub computed : Unit {0}
 unfolding the-list the-history the-forms the-requests the-desk the-table
 computed = tt
 
@@ -93,12 +93,12 @@ everywhere-at P (y ∷ l) all zero x stands = subst (P 0) (let same : y ≡ x = 
 everywhere-at P (y ∷ l) all (suc i) x stands = everywhere-at (λ j. P (suc j)) l all.1 i x stands
 
 -- a fact of each number from 1 to n
-abbrev UpTo : (ℕ → Type 0) → ℕ → Type 0
+abbrev pub UpTo : (ℕ → Type 0) → ℕ → Type 0
 UpTo P zero = Unit {0}
 UpTo P (suc n) = UpTo P n × P (suc n)
 
 -- holds of each number from 1 to n
-up-to-at : (P : ℕ → Type 0) (n : ℕ) → UpTo P n → (k : ℕ) → 1 ≤ k → k ≤ n → P k
+pub up-to-at : (P : ℕ → Type 0) (n : ℕ) → UpTo P n → (k : ℕ) → 1 ≤ k → k ≤ n → P k
 up-to-at P zero all k low high = absurd (omega arith)
 up-to-at P (suc n) all k low high = from (dec_le k n) (up-to-at P n all.0 k low)
   where
@@ -107,7 +107,7 @@ up-to-at P (suc n) all k low high = from (dec_le k n) (up-to-at P n all.0 k low)
     from (no more) below = subst P (let same : suc n ≡ k = omega arith in same) all.1
 
 -- ids that differ are not the same
-other-id : {A : Type 0} (m n : ℕ) → eqb m n ≡ false → counter_id m ≡ counter_id n → A
+pub other-id : {A : Type 0} (m n : ℕ) → eqb m n ≡ false → counter_id m ≡ counter_id n → A
 other-id m n other same = absurd (eqb-false m n other (ap (λ (x : CounterId). x.0) same))
 
 -- ---- what the desk answers
@@ -207,20 +207,20 @@ abbrev ModuleTrue : ℕ → Call → ℕ → Type 0
 ModuleTrue i c k = Certifies (increment_at start (history (take i items)) (call_entry c k).reading) (call_entry c k)
 
 -- which is the digest of its requests
-spelled : (qs : List Request) → digest_of qs ≡ window (digest_of qs) 0 nonce_len
+pub spelled : (qs : List Request) → digest_of qs ≡ window (digest_of qs) 0 nonce_len
 spelled qs = sym (window-whole (digest_of qs) nonce_len (digest-length qs))
 
 -- the owner's verdict on the wanted counter's request in entry k says whether it is signed
-abbrev OwnerTrue : Call → ℕ → Type 0
+abbrev pub OwnerTrue : Call → ℕ → Type 0
 OwnerTrue c k = names c.id (call_entry c k).requests ≡ true → signed (request_of c.id (call_entry c k)) ≡ not (is_no (owner_said c k))
 
 -- a verdict that is known
-owner-says : (c : Call) (k verdict : ℕ) → OwnerTrue c k → names c.id (call_entry c k).requests ≡ true → owner_said c k ≡ verdict
+pub owner-says : (c : Call) (k verdict : ℕ) → OwnerTrue c k → names c.id (call_entry c k).requests ≡ true → owner_said c k ≡ verdict
     → signed (request_of c.id (call_entry c k)) ≡ not (is_no verdict)
 owner-says c k verdict says named is = says named ∙ ap (λ (v : ℕ). not (is_no v)) is
 
 -- the verdicts of the first call are true, the no on entry 2 too
-by-read-owner : (k : ℕ) → 1 ≤ k → k ≤ 3 → OwnerTrue by_read k
+pub by-read-owner : (k : ℕ) → 1 ≤ k → k ≤ 3 → OwnerTrue by_read k
 unfolding computed
 by-read-owner = up-to-at (OwnerTrue by_read) 3 (((tt, λ named. refl), λ named. refl), λ named. absurd (false≢true named))
 
@@ -241,7 +241,7 @@ by-read-true =
     }
 
 -- and those of the third
-by-increment-owner : (k : ℕ) → 1 ≤ k → k ≤ 1 → OwnerTrue by-increment k
+pub by-increment-owner : (k : ℕ) → 1 ≤ k → k ≤ 1 → OwnerTrue by-increment k
 unfolding computed
 by-increment-owner = up-to-at (OwnerTrue by-increment) 1 (tt, λ named. refl)
 
@@ -257,7 +257,7 @@ by-increment-true =
     }
 
 -- and those of the last two
-since-opening-owner : (k : ℕ) → 1 ≤ k → k ≤ 5 → OwnerTrue since-opening k
+pub since-opening-owner : (k : ℕ) → 1 ≤ k → k ≤ 5 → OwnerTrue since-opening k
 unfolding computed
 since-opening-owner =
     up-to-at (OwnerTrue since-opening) 5
@@ -459,7 +459,7 @@ unfolding proof_bytes
 increment-lent k n es is fit =
     bytes-append (increment_front k n es) (log_bytes es) (low-bytes (increment_front k n es) is) (bytes-log es fit)
 
-abbrev LentAt : ℕ → Item → Type 0
+abbrev pub LentAt : ℕ → Item → Type 0
 LentAt i (event e) = Unit {0}
 LentAt i (confirmed k) = Unit {0}
 LentAt i (call c) = Bytes c.proof
@@ -478,7 +478,7 @@ part-fit n m es fit = taken m (drop n es) (dropped n es fit)
     taken (suc k) [] no_more = no_more
     taken (suc k) (e ∷ fs) (one_more here all) = one_more here (taken k fs all)
 
-all-lent : Everywhere LentAt items
+pub all-lent : Everywhere LentAt items
 unfolding computed
 all-lent = (
   tt,
@@ -521,7 +521,7 @@ lent i c stands = everywhere-at LentAt items all-lent i (call c) stands
 -- ---- no clash
 
 -- what an increment carries
-abbrev carried_by : Made → List Request
+abbrev pub carried_by : Made → List Request
 carried_by (made given) = carried given
 carried_by unmade = []
 
