@@ -1,13 +1,12 @@
 /*
  * A server's day: the host keeps an image and sets out proofs, the desk judges them. The first twelve calls are document 01's example of the
- * program, and each prints a line as it does there: number and value, of the desk where a proof was written; behind a refusal's stands what it
- * means, and behind read's its openings. Then boxes 7 and 9 are opened in the same moment, with a third request that is refused: the two that pass share one increment, and
+ * program, and each prints a line as it does there: number and value, of the desk where a proof was written. Behind read's stand its
+ * openings. Then boxes 7 and 9 are opened in the same moment, with a third request that is refused: the two that pass share one increment, and
  * the module is given the digest of them. Each is shown by a proof that closes on it. What the dock's display shows is every counter with its
  * current value and the proofs written for it so far, found in the image without a call. At the end box 7 is retired: its counter is closed, its
  * carrier gets an invoice for the proofs, and what stays is counter 9, with a log that still names counter 7.
  */
 #include "vmc.h"
-#include "vmc_text.h"
 
 #include <stdio.h>
 #include <string.h>
@@ -19,13 +18,9 @@ static uint8_t verdicts[2 + 2 * VMC_MAX_UNITS];
 /* Document 01, "Proof form": the lower byte of the kind at byte 3; the log stands at byte 60 in kind 1 and at byte 36 in kind 2. */
 enum { KIND = 3, LOG_READ = 60, LOG_INCREMENT = 36 };
 
-/* Number and value, and for a refusal what it means. */
 static void print(uint32_t number, uint32_t value)
 {
-    printf("%u %u", (unsigned)number, (unsigned)value);
-    if (number != VMC_REFUSAL_NONE)
-        printf("  %s", vmc_refusal_text(number));
-    printf("\n");
+    printf("%u %u\n", (unsigned)number, (unsigned)value);
 }
 
 static void print_three(uint32_t first, uint32_t second, uint32_t third)

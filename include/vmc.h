@@ -6,7 +6,7 @@
  *
  * To link, on x86-64 Linux, from the top of the repository:
  *
- *     rt staticlib vmc
+ *     tools/archive
  *     cc -Iinclude prog.c target/staticlib/libvmc.a
  *
  * The archive needs no other library.

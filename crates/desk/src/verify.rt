@@ -79,7 +79,7 @@ fn judge(s: &[u8], proof: Proof, verdicts: &[u8], id: CounterId, nonce: &[u8]) -
     if found.repeated != 0 {
         return Answer::Refused(refusal::REPEATED, found.repeated);
     }
-    if closes_elsewhere(s, proof, found.last, verdicts, id, nonce) {
+    if closes_elsewhere(s, proof, verdicts, id, nonce) {
         return Answer::Refused(refusal::CLOSES_ELSEWHERE, 0);
     }
     if found.wrong != 0 {
@@ -92,7 +92,7 @@ fn judge(s: &[u8], proof: Proof, verdicts: &[u8], id: CounterId, nonce: &[u8]) -
         return Answer::Refused(refusal::BROKEN_CHAIN, found.broken);
     }
     let running = found.running;
-    Answer::Accepted(running, closing_reading(s, proof, found.last))
+    Answer::Accepted(running, closing_reading(s, proof))
 }
 
 // The desk's answer to proof, verdicts, wanted counter and wanted nonce. Nothing is asked of the caller, and nothing is written.

@@ -1,4 +1,3 @@
 pub mod Answer
 pub mod Desk
-pub mod Laws
 pub mod Lowest

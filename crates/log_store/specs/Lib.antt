@@ -1,3 +1,2 @@
 pub mod Effect
-pub mod Laws
 pub mod Store

@@ -9,8 +9,7 @@ use desk_table::answer::Figures;
 use forms::terms::CounterId;
 
 // The five figures of the desk's answer, with no buffer written.
-#[unsafe(no_mangle)]
-pub extern "C" fn vmc_desk_verify(proof: &[u8], verdicts: &[u8], id: u32, nonce: &[u8]) -> Figures
+pub fn vmc_desk_verify(proof: &[u8], verdicts: &[u8], id: u32, nonce: &[u8]) -> Figures
     ensures { result ≡ figures (verified proof.now verdicts.now (counter_id id) nonce.now) }
 {
     verify(proof, verdicts, CounterId(id), nonce).figures()

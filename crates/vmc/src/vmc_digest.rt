@@ -11,8 +11,7 @@ pub struct Digest {
 }
 
 // The digest of some bytes, by value.
-#[unsafe(no_mangle)]
-pub extern "C" fn vmc_sha1(message: &[u8]) -> Digest
+pub fn vmc_sha1(message: &[u8]) -> Digest
     ensures { result.bytes ≡ sha1 message.now }
 {
     let bytes = sha1(message);

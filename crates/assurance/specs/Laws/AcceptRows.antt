@@ -24,9 +24,9 @@ use Rattle.validity.specs.declared.proof.Parsed.{Parsed}
 use Rattle.validity.specs.declared.proof.Proof.{Proof}
 use Rattle.desk_table.specs.declared.answer.Answer.{Answer}
 use Rattle.desk_table.specs.Desk.{confirmation, entry, verdicts_before, verdicts_to, verdict_count, zero_or_one, is_own, running_to, bad_wanted, bad_verdicts, bad_confirmation, certificate_denied, module_denied, forged, repeated, closes_elsewhere, wrong_reading, wrong_closing, breaks_chain, closing, later_checks, accepted, judged, verified}
-use Rattle.desk_table.specs.Laws.DeskLaws.{answer_of, verified-parsed}
+use Rattle.desk_table.proofs.Laws.DeskLaws.{answer_of, verified-parsed}
 use Rattle.desk_table.specs.Lowest.{lowest}
-use Rattle.desk_table.specs.Laws.LowestLaws.{Clear, lowest-none}
+use Rattle.desk_table.proofs.Laws.LowestLaws.{Clear, lowest-none}
 use Rattle.desk.specs.Laws.LogVerdictsLaws.{verdicts-grow}
 use Rattle.log_image.specs.Sound.{consecutive, proper, all_proper}
 

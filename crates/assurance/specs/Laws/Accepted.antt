@@ -16,8 +16,8 @@ use Rattle.validity.specs.declared.proof.Proof.{Proof}
 use Rattle.desk_table.specs.Answer.{figures}
 use Rattle.desk_table.specs.declared.answer.Answer.{Answer}
 use Rattle.desk_table.specs.Desk.{confirmation, certificate, verdicts_before, verdict_count, is_own, running_to, bad_wanted, module_denied, forged, repeated, wrong_reading, breaks_chain, later_checks, accepted, judged, verified}
-use Rattle.desk_table.specs.Laws.DeskLaws.{answer_of, verified-parsed}
-use Rattle.desk_table.specs.Laws.LowestLaws.{lowest-clear}
+use Rattle.desk_table.proofs.Laws.DeskLaws.{answer_of, verified-parsed}
+use Rattle.desk_table.proofs.Laws.LowestLaws.{lowest-clear}
 use Rattle.assurance.specs.DeskList.{Call, shown, Accepted, closes, kind_of, call_entry, module_said, owner_said}
 use Rattle.assurance.specs.Laws.Rows.{test, refusal-passed, rows-passed, answer-behind, none-lowest, wanted-some, verdicts-right, confirmation-right, said-yes, certificate-said, module-said, digest-right, named-once, certificate-closes, last-closes, last-stands, readings-right, closing-right, closing-read, chain-right}
 

@@ -23,14 +23,14 @@ use Rattle.log_image.specs.Laws.ImageRoundTrip.{decode-encode}
 use Rattle.log_image.specs.Laws.LookupLaws.{zero-unheld}
 use Rattle.log_image.specs.Sound.{after, base, holds, oldest, record_of}
 use Rattle.log_image.specs.State.{Record, State, decode, encode}
-use Rattle.log_store.specs.Laws.EachRecordLaws.{Keeps, confirmation-keeps, held_keeps, holds-updated, raise-keeps}
+use Rattle.log_store.proofs.Laws.EachRecordLaws.{Keeps, confirmation-keeps, held_keeps, holds-updated, raise-keeps}
 use Rattle.log_store.specs.Effect.{confirmed_by, incremented, proved, raised_by, raised_to, updated}
-use Rattle.log_store.specs.Laws.RecordOfLaws.{record-updated}
-use Rattle.log_store.specs.Laws.RecordStores.{record-of-fits}
-use Rattle.host.specs.Laws.HeldLaws.{current-stored}
+use Rattle.log_store.proofs.Laws.RecordOfLaws.{record-updated}
+use Rattle.log_store.proofs.Laws.RecordStores.{record-of-fits}
+use Rattle.host.proofs.Laws.HeldLaws.{current-stored}
 use Rattle.host.specs.Host.{Settled, confirm_call, confirmed_state, counted, current_of, entries_of, held_of, proof_of, prove_call, prove_refusal, replaced, request_refusal, running_of, settled}
-use Rattle.host.specs.Laws.SettledLaws.{settled-done, settled-refused}
-use Rattle.host.specs.Laws.SoundParts.{sound-parts}
+use Rattle.host.proofs.Laws.SettledLaws.{settled-done, settled-refused}
+use Rattle.host.proofs.Laws.SoundParts.{sound-parts}
 use Rattle.console.specs.Step.{empty_output, yes, yes_for}
 use Rattle.console.specs.Laws.StepLaws.{first-yes, output-long}
 use Rattle.tablets.specs.Act.{Acted, Renewed, acted, confirmed_shown, following, judged_for, renewed, tried}

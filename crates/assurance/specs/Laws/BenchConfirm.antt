@@ -16,9 +16,9 @@ use Rattle.forms.specs.declared.terms.GlobalClock.{GlobalClock}
 use Rattle.log_image.specs.Sound.{after, base, consecutive, holds, record_of}
 use Rattle.log_image.specs.State.{State, decode}
 use Rattle.host.specs.Host.{Settled, confirm_refusal, current_of, entries_of, held_of, prove_call, logged_value}
-use Rattle.host.specs.Laws.HeldLaws.{Held, entries-consecutive, held-within, later-end}
-use Rattle.host.specs.Laws.SettledLaws.{settled-done}
-use Rattle.host.specs.Laws.SoundParts.{SoundState, chain-end, sound-parts}
+use Rattle.host.proofs.Laws.HeldLaws.{Held, entries-consecutive, held-within, later-end}
+use Rattle.host.proofs.Laws.SettledLaws.{settled-done}
+use Rattle.host.proofs.Laws.SoundParts.{SoundState, chain-end, sound-parts}
 use Rattle.console.specs.Step.{empty_output, yes}
 use Rattle.tablets.specs.Act.{Acted, Renewed, acted, following, renewed, tried}
 use Rattle.tablets.specs.Rounds.{Depot, after_turns, tablet_of}

@@ -17,11 +17,11 @@ use Rattle.forms.specs.declared.terms.GlobalClock.{GlobalClock}
 use Rattle.log_image.specs.Laws.ImageRoundTrip.{decode-encode}
 use Rattle.log_image.specs.Sound.{after, base, holds, record_of}
 use Rattle.log_image.specs.State.{Record, State, decode, encode}
-use Rattle.log_store.specs.Laws.EachRecordLaws.{holds-snoc}
+use Rattle.log_store.proofs.Laws.EachRecordLaws.{holds-snoc}
 use Rattle.log_store.specs.Effect.{opened}
-use Rattle.log_store.specs.Laws.RecordOfLaws.{record-before, record-behind}
+use Rattle.log_store.proofs.Laws.RecordOfLaws.{record-before, record-behind}
 use Rattle.host.specs.Host.{Settled, current_of, open_call, open_refusal}
-use Rattle.host.specs.Laws.SettledLaws.{settled-done, settled-refused}
+use Rattle.host.proofs.Laws.SettledLaws.{settled-done, settled-refused}
 use Rattle.console.specs.Step.{yes}
 use Rattle.tablets.specs.Act.{Acted, acted}
 use Rattle.tablets.specs.Rounds.{Depot, Turn, after_turns, answer_at, nobody, tablet_of, turned, turns_of}

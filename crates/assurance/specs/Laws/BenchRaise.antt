@@ -18,8 +18,8 @@ use Rattle.log_image.specs.Sound.{holds, sound_state, sound}
 use Rattle.log_image.specs.State.{State, decode, encode}
 use Rattle.log_store.specs.Effect.{incremented}
 use Rattle.host.specs.Host.{Batch, Settled, answered, asked, asked_from, bad_batch, current_of, increment_call, judge_next, judged_batch, numbers_of, request_refusal, settled}
-use Rattle.host.specs.Laws.SettledLaws.{answered-done, settled-done, settled-refused}
-use Rattle.host.specs.Laws.SoundParts.{sound-parts}
+use Rattle.host.proofs.Laws.SettledLaws.{answered-done, settled-done, settled-refused}
+use Rattle.host.proofs.Laws.SoundParts.{sound-parts}
 use Rattle.host.specs.declared.answer.Figures.{Figures}
 use Rattle.console.specs.Step.{raised_once, yes}
 use Rattle.tablets.specs.Tablet.{nonce_for}

@@ -8,9 +8,9 @@ use Rattle.forms.specs.declared.terms.GlobalClock.{GlobalClock}
 use Rattle.validity.specs.declared.proof.Kind.{Kind}
 use Rattle.desk_table.specs.Desk.{certificate}
 use Rattle.history.specs.History.{HistoryEvent, increment, read, list, clock_after, Stands}
-use Rattle.history.specs.Laws.HistoryLaws.{made-stands, stands-within}
+use Rattle.history.proofs.Laws.HistoryLaws.{made-stands, stands-within}
 use Rattle.history.specs.Nonce.{Has, New}
-use Rattle.history.specs.Laws.NonceLaws.{named-has, new-before, new-stands-later, stands-not-new}
+use Rattle.history.proofs.Laws.NonceLaws.{named-has, new-before, new-stands-later, stands-not-new}
 use Rattle.history.specs.Value.{Signatures}
 use Rattle.assurance.specs.Laws.Accepted.{Passed, count_of, accepted-passed}
 use Rattle.assurance.specs.DeskList.{Call, Item, history, Accepted, closes, kind_of, call_entry, Truth, Fresh, Clash}

@@ -12,9 +12,9 @@ use Rattle.forms.specs.declared.running.Running.{Running}
 use Rattle.validity.specs.Proof.{log_offset}
 use Rattle.desk_table.specs.Desk.{confirmation, verdicts_before}
 use Rattle.history.specs.Openings.{number_of, openings_between}
-use Rattle.history.specs.Laws.OpeningsLaws.{running-walk}
+use Rattle.history.proofs.Laws.OpeningsLaws.{running-walk}
 use Rattle.history.specs.Value.{Signatures, counts, value_at}
-use Rattle.history.specs.Laws.ValueLaws.{value_at-walks-on}
+use Rattle.history.proofs.Laws.ValueLaws.{value_at-walks-on}
 use Rattle.history.specs.Laws.Walk.{pass, clock_walk}
 use Rattle.assurance.specs.Laws.Accepted.{Passed, count_of, running_of, accepted-passed}
 use Rattle.assurance.specs.CallClaim.{LentUpTo}

@@ -15,9 +15,9 @@ use Rattle.digest.specs.Seal.{digest_of}
 use Rattle.digest.specs.Laws.SealLaws.{sealed-nonce}
 use Rattle.desk_table.specs.Desk.{is_no, own_by, is_own}
 use Rattle.history.specs.History.{Given, HistoryEvent, list, bare, clock_after, Made, made, unmade, increment_at, Carries}
-use Rattle.history.specs.Laws.HistoryLaws.{made-within}
+use Rattle.history.proofs.Laws.HistoryLaws.{made-within}
 use Rattle.history.specs.Value.{Signatures, counts}
-use Rattle.history.specs.Laws.ValueLaws.{signed-once, made-counts, counts-stays}
+use Rattle.history.proofs.Laws.ValueLaws.{signed-once, made-counts, counts-stays}
 use Rattle.assurance.specs.Laws.Accepted.{Passed, count_of, own_of}
 use Rattle.assurance.specs.DeskList.{Call, Item, history, call_entry, request_of, owner_said, Certifies, Truth, Clash}
 use Rattle.assurance.specs.Laws.ListLaws.{history-grows}

@@ -9,7 +9,7 @@ use Rattle.forms.specs.declared.terms.CounterId.{CounterId}
 use Rattle.forms.specs.declared.terms.GlobalClock.{GlobalClock}
 use Rattle.desk_table.specs.Desk.{entry, is_own, running_to}
 use Rattle.history.specs.Laws.Walk.{pass_running, clock_walk}
-use Rattle.history.specs.Laws.WalkLaws.{walk-last}
+use Rattle.history.proofs.Laws.WalkLaws.{walk-last}
 
 module _ (counting : GlobalClock → Bool) (s : List ℕ) (log : ℕ) (verdicts : List ℕ) (before : ℕ) (id : CounterId) (value start : ℕ) where
   -- entry k has the reading k after the start, which counts exactly if the entry is the counter's own

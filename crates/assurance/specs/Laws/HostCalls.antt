@@ -15,9 +15,9 @@ use Rattle.log_image.specs.Laws.ImageRoundTrip.{StateFits, decode-fits}
 use Rattle.log_image.specs.State.{State, decode}
 use Rattle.log_image.specs.Sound.{holds, laid_out, sound_state, sound}
 use Rattle.host.specs.Host.{request_nonce, running_of, answered, proof_of, last_of, prove_refusal, last_refusal, read_refusal, counted, read_call, prove_call, last_call}
-use Rattle.host.specs.Laws.DoneLaws.{settled-passed}
-use Rattle.host.specs.Laws.RefusalLaws.{prove-passed, last-passed}
-use Rattle.host.specs.Laws.SettledLaws.{answered-done}
+use Rattle.host.proofs.Laws.DoneLaws.{settled-passed}
+use Rattle.host.proofs.Laws.RefusalLaws.{prove-passed, last-passed}
+use Rattle.host.proofs.Laws.SettledLaws.{answered-done}
 use Rattle.host.specs.declared.answer.Figures.{Figures}
 use Rattle.assurance.specs.HostList.{read_running, last_running}
 use Rattle.assurance.specs.Laws.HostProofs.{prove-accepted, last-accepted}

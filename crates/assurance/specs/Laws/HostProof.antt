@@ -12,8 +12,8 @@ use Rattle.desk_table.specs.Desk.{all_yes, verified}
 use Rattle.desk_table.specs.declared.answer.Answer.{Answer}
 use Rattle.log_image.specs.State.{State, decode}
 use Rattle.host.specs.Host.{request_nonce, held_of, entries_of, last_entries, proof_of, last_of, prove_refusal, last_refusal, counted, start_call, prove_call, last_call, output_for}
-use Rattle.host.specs.Laws.DoneLaws.{settled-passed, value-given}
-use Rattle.host.specs.Laws.RefusalLaws.{prove-passed}
+use Rattle.host.proofs.Laws.DoneLaws.{settled-passed, value-given}
+use Rattle.host.proofs.Laws.RefusalLaws.{prove-passed}
 use Rattle.host.specs.declared.answer.Figures.{Figures}
 use Rattle.assurance.specs.Laws.AcceptLaws.{read_length, increment-length}
 use Rattle.assurance.specs.Laws.HostCalls.{prove-call-accepted, last-call-accepted}

@@ -26,10 +26,10 @@ use Rattle.log_image.specs.Laws.ImageRoundTrip.{StateFits}
 use Rattle.log_image.specs.State.{State}
 use Rattle.log_image.specs.Sound.{holds, consecutive, base, proper, all_proper, after, ending, sound_state}
 use Rattle.log_image.specs.Laws.LookupLaws.{zero-unheld}
-use Rattle.host.specs.Laws.HeldLaws.{Held, held-within, held-chains, entries-consecutive}
+use Rattle.host.proofs.Laws.HeldLaws.{Held, held-within, held-chains, entries-consecutive}
 use Rattle.host.specs.Host.{held_of, entries_of, running_of, has_entry, request_nonce, proof_of, last_entries, last_of}
-use Rattle.host.specs.Laws.LogEndsLaws.{proper-drop}
-use Rattle.host.specs.Laws.SoundParts.{SoundState, sound-parts}
+use Rattle.host.proofs.Laws.LogEndsLaws.{proper-drop}
+use Rattle.host.proofs.Laws.SoundParts.{SoundState, sound-parts}
 use Rattle.assurance.specs.Laws.AcceptLaws.{SetOut, read-accepted, increment-accepted}
 
 -- ---- some of the entries

@@ -21,20 +21,20 @@ use Rattle.log_image.specs.Laws.FitLaws.{start_fits, store-clock-fits, append-re
 use Rattle.log_image.specs.Laws.ImageRoundTrip.{StateFits, length-encode, encode-bytes, encode-sound, decode-encode, decode-fits, sound-decode, sound-laid-out}
 use Rattle.log_image.specs.Sound.{base, sound_state, sound}
 use Rattle.log_image.specs.State.{State, decode, encode}
-use Rattle.log_store.specs.Laws.RemoveStores.{without-fits}
-use Rattle.log_store.specs.Laws.RecordStores.{replaced_state, replaced-fits}
+use Rattle.log_store.proofs.Laws.RemoveStores.{without-fits}
+use Rattle.log_store.proofs.Laws.RecordStores.{replaced_state, replaced-fits}
 use Rattle.log_store.specs.Effect.{started, opened, raised, incremented, advanced, with_records, without}
-use Rattle.log_store.specs.Laws.RaiseStores.{raised-fits}
-use Rattle.host.specs.Laws.CloseLaws.{closed-sound}
-use Rattle.host.specs.Laws.ConfirmLaws.{confirmed-sound}
-use Rattle.host.specs.Laws.CountLaws.{counted-sound, counted-fits}
-use Rattle.host.specs.Laws.FittingLaws.{clock-runs, entry-room, record-room}
+use Rattle.log_store.proofs.Laws.RaiseStores.{raised-fits}
+use Rattle.host.proofs.Laws.CloseLaws.{closed-sound}
+use Rattle.host.proofs.Laws.ConfirmLaws.{confirmed-sound}
+use Rattle.host.proofs.Laws.CountLaws.{counted-sound, counted-fits}
+use Rattle.host.proofs.Laws.FittingLaws.{clock-runs, entry-room, record-room}
 use Rattle.host.specs.Host.{Settled, open_refusal, tick_refusal, bad_batch, batch_refusal, asked, judged_batch, confirm_refusal, close_refusal, open_rows, tick_rows, read_rows, prove_rows, last_rows, confirm_rows, close_rows, none_held, ticked, counted, confirmed_state, closed_state, answered, settled, start_call, increment_call, read_refusal, current_of, proof_of, last_of, prove_refusal, last_refusal, read_call}
-use Rattle.host.specs.Laws.BatchLaws.{batch-fits}
-use Rattle.host.specs.Laws.OpenLaws.{opened-sound}
-use Rattle.host.specs.Laws.RaiseLaws.{started-sound, incremented-sound, ticked-sound}
-use Rattle.host.specs.Laws.RefusalLaws.{open-passed, tick-passed, close_passed}
-use Rattle.host.specs.Laws.SettledLaws.{settled-refused, settled-done}
+use Rattle.host.proofs.Laws.BatchLaws.{batch-fits}
+use Rattle.host.proofs.Laws.OpenLaws.{opened-sound}
+use Rattle.host.proofs.Laws.RaiseLaws.{started-sound, incremented-sound, ticked-sound}
+use Rattle.host.proofs.Laws.RefusalLaws.{open-passed, tick-passed, close_passed}
+use Rattle.host.proofs.Laws.SettledLaws.{settled-refused, settled-done}
 use Rattle.assurance.specs.HostList.{HostCall, settled_by, Widths}
 
 -- ---- what is kept

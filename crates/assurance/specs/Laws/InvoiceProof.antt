@@ -16,14 +16,14 @@ use Rattle.forms.specs.declared.terms.GlobalClock.{GlobalClock}
 use Rattle.log_image.specs.Laws.ImageRoundTrip.{decode-encode, sound-decode}
 use Rattle.log_image.specs.Sound.{holds, distinct, record_of}
 use Rattle.log_image.specs.State.{Record, State, decode}
-use Rattle.log_store.specs.Laws.EachRecordLaws.{Keeps, held_keeps, raise-keeps, confirmation-keeps, holds-updated, holds-snoc}
+use Rattle.log_store.proofs.Laws.EachRecordLaws.{Keeps, held_keeps, raise-keeps, confirmation-keeps, holds-updated, holds-snoc}
 use Rattle.log_store.specs.Effect.{updated, proved, raised_to, raised_by, confirmed_by, opened, raised, incremented, advanced}
-use Rattle.log_store.specs.Laws.RecordOfLaws.{record-updated, record-before, record-behind, holds-taken, holds-left, record-left}
-use Rattle.host.specs.Laws.DoneLaws.{settled-passed, value-given}
+use Rattle.log_store.proofs.Laws.RecordOfLaws.{record-updated, record-before, record-behind, holds-taken, holds-left, record-left}
+use Rattle.host.proofs.Laws.DoneLaws.{settled-passed, value-given}
 use Rattle.host.specs.Host.{Settled, ticked, none_held, counted, closed_state, answered, settled, start_call, increment_call, read_call, open_refusal, tick_refusal, batch_refusal, asked, judged_batch, prove_refusal, last_refusal, confirm_refusal, close_refusal}
-use Rattle.host.specs.Laws.RefusalLaws.{open-passed, close_passed}
-use Rattle.host.specs.Laws.SettledLaws.{settled-refused, settled-done}
-use Rattle.host.specs.Laws.SoundParts.{sound-parts}
+use Rattle.host.proofs.Laws.RefusalLaws.{open-passed, close_passed}
+use Rattle.host.proofs.Laws.SettledLaws.{settled-refused, settled-done}
+use Rattle.host.proofs.Laws.SoundParts.{sound-parts}
 use Rattle.host.specs.declared.answer.Figures.{Figures}
 use Rattle.assurance.specs.HostList.{HostCall, settled_by, Widths}
 use Rattle.assurance.specs.Laws.HostSteps.{Kept, Steady, start-says, start-steps, open-steady, tick-steady, batch-steady, counted-steady, confirm-steady, close-steady, call-steps}

@@ -8,10 +8,10 @@ use Rattle.forms.specs.Request.{RequestsFit}
 use Rattle.forms.specs.declared.request.Request.{Request}
 use Rattle.forms.specs.declared.terms.GlobalClock.{GlobalClock}
 use Rattle.history.specs.History.{HistoryEvent, list, increment, read, clock_after, increment_at, Carries}
-use Rattle.history.specs.Laws.HistoryLaws.{increment-stays, made-within, stands-made}
-use Rattle.history.specs.Laws.ReadLaws.{read-keeps-increment}
+use Rattle.history.proofs.Laws.HistoryLaws.{increment-stays, made-within, stands-made}
+use Rattle.history.proofs.Laws.ReadLaws.{read-keeps-increment}
 use Rattle.history.specs.Value.{Signatures}
-use Rattle.log_store.specs.Laws.EachRecordLaws.{Each}
+use Rattle.log_store.proofs.Laws.EachRecordLaws.{Each}
 use Rattle.assurance.specs.DeskList.{Item}
 use Rattle.assurance.specs.HostList.{HostCall, settled_by}
 use Rattle.assurance.specs.ServerList.{ServerItem, host, beside, ItemAt, desk_list, host_list, image_after, owed_by, paid_by, owed_after, AllSigned}

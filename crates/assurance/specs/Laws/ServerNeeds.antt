@@ -15,7 +15,7 @@ use Rattle.validity.specs.declared.proof.Proof.{Proof}
 use Rattle.history.specs.History.{clock_after, ReadStands}
 use Rattle.history.specs.Value.{Signatures}
 use Rattle.log_image.specs.State.{decode}
-use Rattle.log_store.specs.Laws.EachRecordLaws.{Each}
+use Rattle.log_store.proofs.Laws.EachRecordLaws.{Each}
 use Rattle.assurance.specs.Laws.Accepted.{count_of, accepted-passed}
 use Rattle.assurance.specs.Laws.DeskFreshness.{accepted-reached}
 use Rattle.assurance.specs.DeskList.{Call, Item, confirmed, At, history, kind_of, Truth}

@@ -19,12 +19,12 @@ use Rattle.validity.specs.declared.proof.Kind.{Kind}
 use Rattle.validity.specs.declared.proof.Proof.{Proof}
 use Rattle.desk_table.specs.Desk.{confirmation, certificate, verdicts_before, verdict_count, own_by, is_own}
 use Rattle.history.specs.History.{HistoryEvent, clock_after, Made, ReadStands}
-use Rattle.history.specs.Laws.HistoryLaws.{clock-none, stands-stays, stands-within as event-within}
+use Rattle.history.proofs.Laws.HistoryLaws.{clock-none, stands-stays, stands-within as event-within}
 use Rattle.history.specs.Value.{Signatures, value_at}
-use Rattle.history.specs.Laws.ValueLaws.{value_at-stays}
+use Rattle.history.proofs.Laws.ValueLaws.{value_at-stays}
 use Rattle.log_image.specs.Sound.{base, after}
 use Rattle.log_image.specs.State.{State, decode}
-use Rattle.log_store.specs.Laws.EachRecordLaws.{Each, each-drop, each_take, each-held}
+use Rattle.log_store.proofs.Laws.EachRecordLaws.{Each, each-drop, each_take, each-held}
 use Rattle.host.specs.Host.{held_of, entries_of, last_entries, start_call}
 use Rattle.assurance.specs.Laws.AcceptRows.{ones, ones-own}
 use Rattle.assurance.specs.Laws.Accepted.{Passed, count_of, accepted-passed}

@@ -12,20 +12,20 @@ use Rattle.forms.specs.declared.request.Request.{Request}
 use Rattle.forms.specs.declared.terms.CounterId.{CounterId}
 use Rattle.forms.specs.declared.terms.GlobalClock.{GlobalClock}
 use Rattle.history.specs.History.{HistoryEvent, Given, list, increment, read, clock_after}
-use Rattle.history.specs.Laws.HistoryLaws.{list-one, clock-next}
-use Rattle.history.specs.Laws.ReadLaws.{read-keeps-clock}
+use Rattle.history.proofs.Laws.HistoryLaws.{list-one, clock-next}
+use Rattle.history.proofs.Laws.ReadLaws.{read-keeps-clock}
 use Rattle.history.specs.Value.{Signatures}
 use Rattle.log_image.specs.Laws.ImageRoundTrip.{decode-encode}
 use Rattle.log_image.specs.Sound.{base, distinct, oldest}
 use Rattle.log_image.specs.State.{Record, State, decode, encode}
-use Rattle.log_store.specs.Laws.EachRecordLaws.{Each, each_map, each_snoc, each-drop, each-updated, each-held, each-without, distinct-updated, held-id, held_keeps, raise-keeps}
+use Rattle.log_store.proofs.Laws.EachRecordLaws.{Each, each_map, each_snoc, each-drop, each-updated, each-held, each-without, distinct-updated, held-id, held_keeps, raise-keeps}
 use Rattle.log_store.specs.Effect.{updated, raised_to, confirmed_by, proved, opened, sealed_entry, raised, raised_by, incremented, advanced, without}
-use Rattle.host.specs.Laws.BatchLaws.{passed-fit}
-use Rattle.host.specs.Laws.DoneLaws.{settled-passed}
+use Rattle.host.proofs.Laws.BatchLaws.{passed-fit}
+use Rattle.host.proofs.Laws.DoneLaws.{settled-passed}
 use Rattle.host.specs.Host.{Settled, held_of, asked, judged_batch, open_refusal, tick_refusal, batch_refusal, prove_refusal, last_refusal, confirm_refusal, close_refusal, none_held, ticked, counted, replaced, confirmed_state, closed_state, answered, settled, start_call, increment_call}
-use Rattle.host.specs.Laws.RefusalLaws.{open-passed, confirm-passed}
-use Rattle.host.specs.Laws.SettledLaws.{settled-refused, settled-done, answered-done, answered-refused}
-use Rattle.host.specs.Laws.SoundParts.{sound-parts}
+use Rattle.host.proofs.Laws.RefusalLaws.{open-passed, confirm-passed}
+use Rattle.host.proofs.Laws.SettledLaws.{settled-refused, settled-done, answered-done, answered-refused}
+use Rattle.host.proofs.Laws.SoundParts.{sound-parts}
 use Rattle.host.specs.declared.answer.Figures.{Figures}
 use Rattle.assurance.specs.DeskList.{Item, event, confirmed, call, history, Opening}
 use Rattle.assurance.specs.HostList.{HostCall, settled_by, Widths}

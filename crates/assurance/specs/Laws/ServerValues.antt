@@ -16,19 +16,19 @@ use Rattle.forms.specs.declared.terms.CounterId.{CounterId}
 use Rattle.forms.specs.declared.terms.GlobalClock.{GlobalClock}
 use Rattle.digest.specs.Seal.{is_sealed}
 use Rattle.history.specs.History.{HistoryEvent, list, read, clock_after, made}
-use Rattle.history.specs.Laws.HistoryLaws.{clock-never-falls}
-use Rattle.history.specs.Laws.ReadLaws.{read-keeps-clock, read-keeps-value}
+use Rattle.history.proofs.Laws.HistoryLaws.{clock-never-falls}
+use Rattle.history.proofs.Laws.ReadLaws.{read-keeps-clock, read-keeps-value}
 use Rattle.history.specs.Value.{Signatures, counts, value_at}
-use Rattle.history.specs.Laws.ValueLaws.{signed-once, made-counts, value_at-stays, value_at-walks-on}
+use Rattle.history.proofs.Laws.ValueLaws.{signed-once, made-counts, value_at-stays, value_at-walks-on}
 use Rattle.history.specs.Laws.Walk.{pass, clock_walk}
 use Rattle.log_image.specs.Sound.{base, after, consecutive, proper, all_proper, holds, sound_state}
 use Rattle.log_image.specs.Laws.ImageRoundTrip.{StateFits}
 use Rattle.log_image.specs.State.{State}
-use Rattle.log_store.specs.Laws.EachRecordLaws.{Each, each-drop, each_take}
-use Rattle.host.specs.Laws.HeldLaws.{held-within, entries-consecutive}
+use Rattle.log_store.proofs.Laws.EachRecordLaws.{Each, each-drop, each_take}
+use Rattle.host.proofs.Laws.HeldLaws.{held-within, entries-consecutive}
 use Rattle.host.specs.Host.{held_of, entries_of, logged_value}
-use Rattle.host.specs.Laws.LogEndsLaws.{proper-drop}
-use Rattle.host.specs.Laws.SoundParts.{sound-parts}
+use Rattle.host.proofs.Laws.LogEndsLaws.{proper-drop}
+use Rattle.host.proofs.Laws.SoundParts.{sound-parts}
 use Rattle.assurance.specs.DeskList.{Item, request_of, Opening}
 use Rattle.assurance.specs.Laws.HostProofs.{consecutive-take, entries-count}
 use Rattle.assurance.specs.Laws.ServerLaws.{Certified}

@@ -20,9 +20,9 @@ use Rattle.desk_table.specs.declared.answer.Figures.{Figures}
 use Rattle.desk_table.specs.Desk.{verified, confirmation, certificate, all_yes, verdicts_for}
 use Rattle.log_image.specs.Sound.{holds}
 use Rattle.log_image.specs.State.{State, decode}
-use Rattle.host.specs.Laws.DoneLaws.{settled-passed}
+use Rattle.host.proofs.Laws.DoneLaws.{settled-passed}
 use Rattle.host.specs.Host.{request_nonce, held_of, entries_of, last_entries, proof_of, last_of, prove_refusal, last_refusal, counted}
-use Rattle.host.specs.Laws.RefusalLaws.{prove-passed, last-passed}
+use Rattle.host.proofs.Laws.RefusalLaws.{prove-passed, last-passed}
 use Rattle.assurance.specs.Laws.AcceptLaws.{entries-back, read_back, increment-back, taken}
 use Rattle.assurance.specs.Laws.AcceptRows.{ones}
 use Rattle.assurance.specs.Laws.Accepted.{accepted-passed}

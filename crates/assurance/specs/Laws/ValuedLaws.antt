@@ -6,7 +6,7 @@ use Rattle.forms.specs.declared.terms.CounterId.{CounterId}
 use Rattle.forms.specs.declared.terms.GlobalClock.{GlobalClock}
 use Rattle.history.specs.History.{HistoryEvent}
 use Rattle.history.specs.Value.{Signatures, value_at}
-use Rattle.history.specs.Laws.ValueLaws.{value_at-opened}
+use Rattle.history.proofs.Laws.ValueLaws.{value_at-opened}
 use Rattle.assurance.specs.DeskList.{Item, Opening}
 use Rattle.assurance.specs.Valued.{Valued}
 

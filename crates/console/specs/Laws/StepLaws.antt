@@ -18,16 +18,16 @@ use Rattle.forms.specs.declared.terms.GlobalClock.{GlobalClock}
 use Rattle.validity.specs.Proof.{Fields, fields_len, shape_of}
 use Rattle.validity.specs.declared.proof.Kind.{Kind}
 use Rattle.desk_table.specs.Desk.{all_yes, verdicts_for, verified}
-use Rattle.desk_table.specs.Laws.VerdictsLaws.{verdicts-few}
+use Rattle.desk_table.proofs.Laws.VerdictsLaws.{verdicts-few}
 use Rattle.log_image.specs.Laws.EndLaws.{first-within}
 use Rattle.log_image.specs.Laws.ImageRoundTrip.{laid-out-parts, sound-laid-out}
 use Rattle.log_image.specs.Laws.LogLaws.{entries-first}
 use Rattle.log_image.specs.Sound.{base, laid_out, after}
 use Rattle.log_image.specs.State.{State, decode, entry_count}
-use Rattle.host.specs.Laws.DoneLaws.{settled-passed, value-given}
+use Rattle.host.proofs.Laws.DoneLaws.{settled-passed, value-given}
 use Rattle.host.specs.Host.{has_entry, request_nonce, held_of, proof_of, last_of, prove_refusal, last_refusal, counted, increment_figures, increment_call, prove_call, last_call, prove_output, last_output}
-use Rattle.host.specs.Laws.LastLaws.{has-none}
-use Rattle.host.specs.Laws.RefusalLaws.{prove-passed, last-passed}
+use Rattle.host.proofs.Laws.LastLaws.{has-none}
+use Rattle.host.proofs.Laws.RefusalLaws.{prove-passed, last-passed}
 use Rattle.host.specs.declared.answer.BatchFigures.{BatchFigures}
 use Rattle.host.specs.declared.answer.Figures.{Figures}
 use Rattle.grammar.specs.declared.command.Command.{Command}

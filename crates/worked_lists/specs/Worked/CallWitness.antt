@@ -14,7 +14,7 @@ use Rattle.desk_table.specs.declared.answer.Figures.{Figures}
 use Rattle.desk_table.specs.Desk.{confirmation}
 use Rattle.history.specs.History.{increment, bare, clock_after}
 use Rattle.history.specs.Nonce.{InRequest, New}
-use Rattle.history.specs.Laws.NonceLaws.{bare-not-new, request-not-new}
+use Rattle.history.proofs.Laws.NonceLaws.{bare-not-new, request-not-new}
 use Rattle.history.specs.Openings.{number_of, openings_between}
 use Rattle.history.specs.Value.{signed_among, counts, value_at}
 use Rattle.assurance.specs.CallClaim.{Counted}

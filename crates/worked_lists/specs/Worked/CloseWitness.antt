@@ -16,7 +16,7 @@ use Rattle.log_image.specs.Sound.{holds, oldest, after, ending, record_of}
 use Rattle.log_image.specs.State.{Record, State}
 use Rattle.log_store.specs.Effect.{updated, sealed_entry, raised_by, without}
 use Rattle.host.specs.Host.{Settled, open_refusal, asked_from, judge_next, judged_batch, proof_of, open_call, prove_output}
-use Rattle.host.specs.Laws.SettledLaws.{settled-refused}
+use Rattle.host.proofs.Laws.SettledLaws.{settled-refused}
 use Rattle.grammar.specs.Command.{arguments_of, named, by_words}
 use Rattle.grammar.specs.declared.command.Arguments.{Arguments}
 use Rattle.grammar.specs.declared.command.Command.{Command}

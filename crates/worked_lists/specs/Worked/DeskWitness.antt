@@ -30,9 +30,9 @@ use Rattle.desk_table.specs.Answer.{figures}
 use Rattle.desk_table.specs.declared.answer.Answer.{Answer}
 use Rattle.desk_table.specs.declared.answer.Figures.{Figures}
 use Rattle.desk_table.specs.Desk.{confirmation, zero_or_one, is_no, verdicts_to, is_own, running_to, bad_wanted, bad_verdicts, bad_confirmation, certificate_denied, module_denied, forged, repeated, closes_elsewhere, wrong_reading, wrong_closing, breaks_chain, closing, later_checks, accepted, judged, verified}
-use Rattle.desk_table.specs.Laws.DeskLaws.{answer_of, verified-parsed}
+use Rattle.desk_table.proofs.Laws.DeskLaws.{answer_of, verified-parsed}
 use Rattle.desk_table.specs.Lowest.{lowest, lowest_from}
-use Rattle.desk_table.specs.Laws.LowestLaws.{lowest-none}
+use Rattle.desk_table.proofs.Laws.LowestLaws.{lowest-none}
 use Rattle.history.specs.History.{increment, read, list, carried, increments, clock_after, Made, made, unmade, increment_at}
 use Rattle.history.specs.Nonce.{InRequest, New}
 use Rattle.history.specs.Openings.{number_of, openings_between}

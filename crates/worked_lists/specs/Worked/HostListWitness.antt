@@ -28,12 +28,12 @@ use Rattle.log_image.specs.Sound.{holds, oldest, after, ending, sound_state, rec
 use Rattle.log_image.specs.State.{State, records_bytes, header_of, decode, encode}
 use Rattle.log_store.specs.Effect.{started, opened, updated, raised_by, incremented}
 use Rattle.host.specs.Host.{request_nonce, Settled, running_of, has_entry, open_refusal, bad_batch, batch_refusal, asked_from, asked as asked_by, Batch, judge_next, judged_batch, read_refusal, counted, proof_of, last_entries, last_of, settled, answered, start_call, open_call, increment_call, read_call, prove_call, last_call, prove_output, last_output, prove_refusal, last_refusal}
-use Rattle.host.specs.Laws.CountLaws.{counted-sound, counted-fits}
-use Rattle.host.specs.Laws.DisplayLaws.{display-reads}
-use Rattle.host.specs.Laws.BatchLaws.{batch-fits}
-use Rattle.host.specs.Laws.OpenLaws.{opened-sound}
-use Rattle.host.specs.Laws.RaiseLaws.{started-sound, incremented-sound}
-use Rattle.host.specs.Laws.SettledLaws.{answered-done, settled-done}
+use Rattle.host.proofs.Laws.CountLaws.{counted-sound, counted-fits}
+use Rattle.host.proofs.Laws.DisplayLaws.{display-reads}
+use Rattle.host.proofs.Laws.BatchLaws.{batch-fits}
+use Rattle.host.proofs.Laws.OpenLaws.{opened-sound}
+use Rattle.host.proofs.Laws.RaiseLaws.{started-sound, incremented-sound}
+use Rattle.host.proofs.Laws.SettledLaws.{answered-done, settled-done}
 use Rattle.host.specs.declared.answer.Figures.{Figures}
 use Rattle.assurance.specs.HostList.{HostCall, Taken, read_running, Runs}
 use Rattle.assurance.specs.Laws.HostProof.{host-claim}

@@ -15,7 +15,7 @@ use Rattle.log_image.specs.Sound.{holds, oldest, after, ending, record_of}
 use Rattle.log_image.specs.State.{Record, State}
 use Rattle.log_store.specs.Effect.{updated, sealed_entry, raised_by, without}
 use Rattle.host.specs.Host.{Settled, asked_from, judge_next, judged_batch, prove_refusal, proof_of, close_call}
-use Rattle.host.specs.Laws.SettledLaws.{settled-refused}
+use Rattle.host.proofs.Laws.SettledLaws.{settled-refused}
 use Rattle.host.specs.declared.answer.Figures.{Figures}
 use Rattle.assurance.specs.HostList.{HostCall, settled_by, Widths}
 use Rattle.worked_lists.specs.Worked.HostListWitness.{byte_nonce, nonce-bytes, request, joined_bytes, none-bytes, blank, blank-long}

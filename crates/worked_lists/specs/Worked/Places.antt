@@ -19,8 +19,8 @@ use Rattle.log_image.specs.Sound.{base, after, record_of}
 use Rattle.log_image.specs.State.{State, decode}
 use Rattle.log_store.specs.Effect.{started, opened, incremented}
 use Rattle.host.specs.Host.{Settled, held_of, entries_of, open_refusal, tick_refusal, batch_refusal, asked, judged_batch, prove_refusal, last_refusal, confirm_refusal, close_refusal, read_refusal, running_of, ticked, counted, confirmed_state, closed_state, proof_of, last_entries, last_of, prove_output, answered, settled, start_call}
-use Rattle.host.specs.Laws.RaiseLaws.{started-sound}
-use Rattle.host.specs.Laws.SettledLaws.{answered-done, settled-done}
+use Rattle.host.proofs.Laws.RaiseLaws.{started-sound}
+use Rattle.host.proofs.Laws.SettledLaws.{answered-done, settled-done}
 use Rattle.host.specs.declared.answer.Figures.{Figures}
 use Rattle.assurance.specs.HostList.{HostCall, settled_by, Taken, read_running, Fair}
 use Rattle.worked_lists.specs.Worked.HostListWitness.{byte_nonce, blank, start-image, lens_of, log-length, batch-settled}

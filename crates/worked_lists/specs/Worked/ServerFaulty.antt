@@ -14,7 +14,7 @@ use Rattle.history.specs.History.{Given, list, increment, carried, Made, made, u
 use Rattle.history.specs.Value.{Signatures}
 use Rattle.log_image.specs.Sound.{holds, oldest, after, ending, record_of}
 use Rattle.log_image.specs.State.{State, decode}
-use Rattle.log_store.specs.Laws.EachRecordLaws.{Each}
+use Rattle.log_store.proofs.Laws.EachRecordLaws.{Each}
 use Rattle.log_store.specs.Effect.{updated}
 use Rattle.host.specs.Host.{held_of, has_entry, asked, asked_from, judge_next, judged_batch, counted, last_entries, increment_call}
 use Rattle.host.specs.declared.answer.Figures.{Figures}

@@ -32,8 +32,8 @@ use Rattle.history.specs.Value.{signed_among, counts, largest, value_at}
 use Rattle.log_image.specs.Laws.ImageParts.{bytes-append}
 use Rattle.log_image.specs.Sound.{holds, oldest, after, ending, consecutive, all_proper, record_of}
 use Rattle.log_image.specs.State.{State, decode}
-use Rattle.log_store.specs.Laws.EachRecordLaws.{Each}
-use Rattle.log_store.specs.Laws.RaiseStores.{entry-of-fits}
+use Rattle.log_store.proofs.Laws.EachRecordLaws.{Each}
+use Rattle.log_store.proofs.Laws.RaiseStores.{entry-of-fits}
 use Rattle.log_store.specs.Effect.{updated, raised_by}
 use Rattle.host.specs.Host.{Asked, asked, asked_from, batch_refusal, judge_next, judged_batch, counted, increment_call}
 use Rattle.host.specs.declared.answer.Figures.{Figures}

@@ -1,8 +1,5 @@
 -- `console::judge::judge` meets its contract: the desk gets the proof at its length and as many verdicts as it has, all yes. Assumes nothing.
-use mathlib.Core.Path.{ap, ap₂, ◌∙◌}
-use mathlib.Core.List.{List}
-use Prim.Native.Nat.{ℕ}
-use lib.ListN.{replicate, take}
+use Rattle.std.proofs.Common.{ap, ap₂, ◌∙◌, List, ℕ, replicate, take}
 use Rattle.desk_table.specs.Desk.{verified}
 use Rattle.console.specs.Step.{max_verdicts, yes}
 use Rattle.console.proofs.judge.judge.Goals as goal

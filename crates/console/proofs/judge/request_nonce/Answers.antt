@@ -1,7 +1,5 @@
 -- `console::judge::request_nonce` meets its contract: nothing is promised of bytes without an image's layout. Assumes nothing.
-use mathlib.Core.Path.{sym, subst, ◌∙◌}
-use mathlib.Core.Bool.{true≢false}
-use Prim.Native.Nat.{ℕ}
+use Rattle.std.proofs.Common.{sym, subst, ◌∙◌, true≢false, ℕ}
 use Rattle.forms.specs.Entry.{entries_at}
 use Rattle.forms.specs.Limits.{image_log_offset}
 use Rattle.log_image.specs.State.{decode}

@@ -1,5 +1,5 @@
 -- `console::judge::show` meets its contract. Assumes nothing.
-use mathlib.Core.Path.{ap}
+use Rattle.std.proofs.Common.{ap}
 use Rattle.desk_table.specs.declared.answer.Figures.{Figures}
 use Rattle.console.proofs.judge.show.Goals as goal
 

@@ -1,6 +1,5 @@
 -- `console::session::close_line` meets its contract: the answer is stored behind the text. Assumes nothing.
-use mathlib.Core.Path.{refl}
-use native.Mathlib.Omega.{arith}
+use Rattle.std.proofs.Common.{refl, arith}
 use Rattle.console.specs.Laws.AnswerLaws.{answer-short}
 use Rattle.console.specs.Lines.{pending_of}
 use Rattle.console.specs.Laws.LinesLaws.{took-closed}
@@ -13,4 +12,5 @@ returns c =
     let a = c.args in
     took-closed line_answered a.fed.line a.fed.len a.image.now a.text.now
     (line-answered a.image.now (pending_of a.fed.line) c.command.ensures c.step-figures.ensures.value c.step-figures.ensures.image_after)
-    (omega (arith, c.requires, answer-short c.step-figures.result)) refl c.put_answer-len.ensures.value c.put_answer-len.ensures.text_after c.new.ensures
+    (omega (arith, c.requires, answer-short c.step-figures.result)) refl c.put_answer-len.ensures.value c.put_answer-len.ensures.text_after
+    c.new.ensures

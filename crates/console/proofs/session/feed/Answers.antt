@@ -1,9 +1,5 @@
 -- `console::session::feed` meets its contract: after i turns the session stands where i bytes of the part leave it. Assumes nothing.
-use mathlib.Core.Path.{refl, ◌∙◌}
-use Prim.Native.Nat.{◌-◌, zero-le}
-use native.Mathlib.Omega.{arith}
-use borrow.Author.Rules.{rules}
-use lib.ListN.{length}
+use Rattle.std.proofs.Common.{refl, ◌∙◌, zero-le, arith, rules, length}
 use Rattle.console.specs.Lines.{pending_of}
 use Rattle.console.specs.Laws.LinesLaws.{fed-none, fed-all, feeding-more, feeding-all, printed-at}
 use Rattle.console.specs.Session.{line_answered}
@@ -24,12 +20,11 @@ pub take_byte-fed-requires : goal.take_byte-fed-requires
 take_byte-fed-requires c = omega arith
 
 pub loop-i-preserved : goal.loop-i-preserved
-loop-i-preserved c =
-    (
-      c.take_byte-fed.auto.image ∙ c.loop-i.invariant.0,
-      feeding-more c.loop-i.invariant.1 c.loop-i-test.true
-          (line-short c.loop-i.image (pending_of c.loop-i.fed.line)) c.take_byte-fed.ensures,
-    )
+loop-i-preserved c = (
+  c.take_byte-fed.auto.image ∙ c.loop-i.invariant.0,
+  feeding-more c.loop-i.invariant.1 c.loop-i-test.true
+      (line-short c.loop-i.image (pending_of c.loop-i.fed.line)) c.take_byte-fed.ensures,
+)
 
 pub returns : goal.returns
 returns c =

@@ -1,8 +1,5 @@
 -- `console::session::finish` meets its contract: a line that was begun is closed. Assumes nothing.
-use mathlib.Core.Path.{refl, sym, ◌∙◌, subst}
-use mathlib.Core.List.{List}
-use Prim.Native.Nat.{ℕ, zero-le}
-use lib.ListN.{length}
+use Rattle.std.proofs.Common.{refl, sym, ◌∙◌, subst, List, ℕ, zero-le, length}
 use Rattle.console.specs.Lines.{Printed, Session}
 use Rattle.console.specs.Laws.LinesLaws.{ended-short, ended-idle, ended-closed, printed-at, took-printed}
 use Rattle.console.specs.Session.{line_answered}

@@ -1,8 +1,5 @@
 -- `console::session::take_byte` meets its contract: a newline closes the line, and another byte extends it. Assumes nothing.
-use mathlib.Core.Path.{subst}
-use mathlib.Core.List.{List}
-use Prim.Native.Nat.{ℕ}
-use native.Mathlib.Omega.{arith}
+use Rattle.std.proofs.Common.{subst, List, ℕ, arith}
 use Rattle.console.specs.Lines.{Session}
 use Rattle.console.specs.Laws.LinesLaws.{Took, session_at, byte-newline, took-other}
 use Rattle.console.specs.Session.{line_answered}

@@ -1,5 +1,5 @@
 -- `console::step::show_read` meets its contract. Assumes nothing.
-use mathlib.Core.Path.{ap}
+use Rattle.std.proofs.Common.{ap}
 use Rattle.console.specs.Step.{read_figures}
 use Rattle.console.proofs.step.show_read.Goals as goal
 

@@ -11,8 +11,8 @@ use Rattle.validity.specs.Proof.{log_offset}
 use Rattle.validity.specs.Laws.ProofLaws.{count-bound}
 use Rattle.validity.specs.declared.proof.Proof.{Proof}
 use Rattle.desk_table.specs.declared.answer.Answer.{Answer}
-use Rattle.desk_table.specs.Desk.{is_no, verdicts_before, verdict_count, bad_confirmation, entry_offset, later_checks, accepted, judged, confirmation}
-use Rattle.desk_table.specs.Laws.VerdictsLaws.{before-bound}
+use Rattle.desk_table.specs.Desk.{is_no, verdicts_before, verdict_count, bad_confirmation, later_checks, accepted, judged, confirmation}
+use Rattle.desk_table.proofs.Laws.VerdictsLaws.{before-bound}
 use Rattle.desk.specs.Laws.LogVerdictsLaws.{counted-verdicts}
 use Rattle.desk.specs.Laws.Progress.{Progress, progress_at}
 use Rattle.desk.proofs.verify.judge.Goals as goal
@@ -121,10 +121,6 @@ found c =
     progress_at a.s.now (log_offset a.proof.kind) a.verdicts.now (verdicts_before a.proof.kind) a.id k.reading k.value a.proof.count)
     read.ensures
 
--- where the last entry begins
-last_found : (c : After-walk_log-found) → c.walk_log-found.result.last ≡ entry_offset c.args.s.now (log_offset c.args.proof.kind) c.args.proof.count
-last_found c = ap (λ (p : Progress). p.last) (found c)
-
 -- a row over every entry
 no-entry : (place lowest : ℕ) → place ≡ lowest → place ≡ 0 → not (eqb lowest 0) ≡ false
 no-entry place lowest e none = ap (λ (n : ℕ). not (eqb n 0)) (sym e) ∙ ap not (eq-eqb place 0 none)
@@ -175,7 +171,7 @@ rest-7 c =
 pub closes_elsewhere-requires : goal.closes_elsewhere-requires
 closes_elsewhere-requires c =
     let at = goal.at.closes_elsewhere-requires c in
-    (c.requires.0, c.requires.1, last_found at.After-walk_log-found, verdicts-there at.Else-bad_verdicts)
+    (c.requires.0, c.requires.1, verdicts-there at.Else-bad_verdicts)
 
 pub returns-then-closes_elsewhere : goal.returns-then-closes_elsewhere
 returns-then-closes_elsewhere c =
@@ -226,7 +222,7 @@ rest-11 c =
 
 -- the value and the closing reading
 pub closing_reading-requires : goal.closing_reading-requires
-closing_reading-requires c = last_found (goal.at.closing_reading-requires c).After-walk_log-found
+closing_reading-requires c = c.requires.1
 
 pub returns : goal.returns
 returns c =

@@ -6,7 +6,7 @@ use Rattle.validity.specs.declared.proof.Parsed.{Parsed}
 use Rattle.validity.specs.declared.proof.Proof.{Proof}
 use Rattle.desk_table.specs.declared.answer.Answer.{Answer}
 use Rattle.desk_table.specs.Desk.{judged, verified}
-use Rattle.desk_table.specs.Laws.DeskLaws.{answer_of, verified-parsed}
+use Rattle.desk_table.proofs.Laws.DeskLaws.{answer_of, verified-parsed}
 use Rattle.desk.proofs.verify.verify.Goals as goal
 use Rattle.desk.proofs.verify.verify.Goals.{After-bad_wanted, After-parse-parsed}
 

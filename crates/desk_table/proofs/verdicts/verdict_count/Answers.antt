@@ -4,7 +4,7 @@ use Rattle.forms.specs.Limits.{request_len}
 use Rattle.validity.specs.Proof.{log_offset}
 use Rattle.validity.specs.declared.proof.Proof.{Proof}
 use Rattle.desk_table.specs.Desk.{verdicts_before}
-use Rattle.desk_table.specs.Laws.VerdictsLaws.{before-bound}
+use Rattle.desk_table.proofs.Laws.VerdictsLaws.{before-bound}
 use Rattle.desk_table.proofs.verdicts.verdict_count.Goals as goal
 use Rattle.desk_table.proofs.verdicts.verdict_count.Goals.{After-count_before-before, After-log_offset-log}
 

@@ -1,6 +1,6 @@
 -- `desk_table::verdicts::zero_or_one` meets its contract: no byte passed is over 1, or one was and the answer stands. Assumes nothing.
 use Rattle.std.proofs.Common.{refl, sym, ◌∙◌, inl, inr, ⊎_elim, arith, rules, below_more}
-use Rattle.desk_table.specs.Laws.VerdictsLaws.{zero-or-one-yes, zero-or-one-no}
+use Rattle.desk_table.proofs.Laws.VerdictsLaws.{zero-or-one-yes, zero-or-one-no}
 use Rattle.desk_table.proofs.verdicts.zero_or_one.Goals as goal
 use Rattle.desk_table.proofs.verdicts.zero_or_one.Goals.{then-verdicts-i-gt1, else-verdicts-i-gt1}
 

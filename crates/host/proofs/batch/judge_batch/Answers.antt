@@ -1,12 +1,12 @@
 -- `host::batch::judge_batch` meets its contract. The loop's invariant: the code has what the fold has of the requests so far. Assumes nothing.
-use Rattle.std.proofs.Common.{◌≡◌, sym, subst, ℕ, ◌+◌, ◌-◌, ◌*◌, ◌/◌, ◌≤◌, ◌<◌, div-add-mod', arith, length}
+use Rattle.std.proofs.Common.{◌≡◌, sym, subst, ℕ, ◌+◌, ◌*◌, ◌/◌, ◌≤◌, ◌<◌, div-add-mod', arith, length}
 use Rattle.forms.specs.Bytes.{Bytes}
 use Rattle.forms.specs.Limits.{max_requests, request_len}
 use Rattle.log_image.specs.State.{decode}
 use Rattle.host.specs.Laws.Batch.{JudgedAs}
-use Rattle.host.specs.Laws.BatchLaws.{GoodBatch, good-batch}
+use Rattle.host.proofs.Laws.BatchLaws.{GoodBatch, good-batch}
 use Rattle.host.specs.Host.{asked_from, judged_batch}
-use Rattle.host.specs.Laws.JudgedLaws.{judged-none, judged-next}
+use Rattle.host.proofs.Laws.JudgedLaws.{judged-none, judged-next}
 use Rattle.host.specs.declared.batch.Judged.{Judged}
 use Rattle.host.proofs.batch.judge_batch.Goals as goal
 

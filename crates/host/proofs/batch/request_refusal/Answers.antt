@@ -10,7 +10,7 @@ use Rattle.forms.specs.Laws.RequestLaws.{length-requests}
 use Rattle.forms.specs.declared.terms.CounterId.{CounterId}
 use Rattle.log_image.specs.Sound.{holds}
 use Rattle.log_image.specs.State.{decode}
-use Rattle.host.specs.Laws.FittingLaws.{found-units}
+use Rattle.host.proofs.Laws.FittingLaws.{found-units}
 use Rattle.host.specs.Host.{current_of, request_rows}
 use Rattle.host.proofs.batch.request_refusal.Goals as goal
 

@@ -1,7 +1,7 @@
 -- `host::batch::with_number` meets its contract. Assumes nothing.
 use Rattle.std.proofs.Common.{◌+◌, ◌-◌, ◌*◌, arith}
 use Rattle.forms.specs.Limits.{request_len}
-use Rattle.host.specs.Laws.JudgedLaws.{number-kept, number_passed}
+use Rattle.host.proofs.Laws.JudgedLaws.{number-kept, number_passed}
 use Rattle.host.proofs.batch.with_number.Goals as goal
 
 pub returns-then-number-ne-NONE : goal.returns-then-number-ne-NONE

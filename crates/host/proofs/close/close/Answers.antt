@@ -6,15 +6,15 @@ use Rattle.log_image.specs.Laws.ImageRoundTrip.{StateFits, sound-decode}
 use Rattle.log_image.specs.Sound.{record_of, sound}
 use Rattle.log_image.specs.State.{decode, encode}
 use Rattle.log_store.specs.Effect.{with_records, without}
-use Rattle.log_store.specs.Laws.CutStores.{cut-stored}
-use Rattle.log_store.specs.Laws.EachRecordLaws.{oldest-without}
-use Rattle.log_store.specs.Laws.RemoveStores.{removed-proofs, removed-stored, without-fits}
+use Rattle.log_store.proofs.Laws.CutStores.{cut-stored}
+use Rattle.log_store.proofs.Laws.EachRecordLaws.{oldest-without}
+use Rattle.log_store.proofs.Laws.RemoveStores.{removed-proofs, removed-stored, without-fits}
 use Rattle.log_store.specs.Store.{log_cut, proofs_of, record_removed}
-use Rattle.host.specs.Laws.FittingLaws.{image-of, state-fits}
+use Rattle.host.proofs.Laws.FittingLaws.{image-of, state-fits}
 use Rattle.host.specs.Host.{close_refusal, closed_state}
-use Rattle.host.specs.Laws.RefusalLaws.{ClosePassed, close_passed}
-use Rattle.host.specs.Laws.SettledLaws.{ends-unsound, ends-refused, ends-done}
-use Rattle.host.specs.Laws.SoundParts.{sound-parts}
+use Rattle.host.proofs.Laws.RefusalLaws.{ClosePassed, close_passed}
+use Rattle.host.proofs.Laws.SettledLaws.{ends-unsound, ends-refused, ends-done}
+use Rattle.host.proofs.Laws.SoundParts.{sound-parts}
 use Rattle.host.proofs.close.close.Goals as goal
 
 pub returns-then-not-sound : goal.returns-then-not-sound

@@ -4,13 +4,13 @@ use Rattle.forms.specs.Bytes.{Bytes}
 use Rattle.forms.specs.Limits.{max_counters}
 use Rattle.log_image.specs.Sound.{sound}
 use Rattle.log_image.specs.State.{decode}
-use Rattle.log_store.specs.Laws.RecordStores.{added-counted, added-stored}
+use Rattle.log_store.proofs.Laws.RecordStores.{added-counted, added-stored}
 use Rattle.log_store.specs.Store.{counters_with, record_added}
 use Rattle.log_store.specs.Effect.{opened}
-use Rattle.host.specs.Laws.FittingLaws.{image-of, record-room, state-fits}
+use Rattle.host.proofs.Laws.FittingLaws.{image-of, record-room, state-fits}
 use Rattle.host.specs.Host.{open_refusal}
-use Rattle.host.specs.Laws.RefusalLaws.{open-passed}
-use Rattle.host.specs.Laws.SettledLaws.{ends-unsound, ends-refused, ends-done}
+use Rattle.host.proofs.Laws.RefusalLaws.{open-passed}
+use Rattle.host.proofs.Laws.SettledLaws.{ends-unsound, ends-refused, ends-done}
 use Rattle.host.proofs.open.open.Goals as goal
 
 pub returns-then-not-sound : goal.returns-then-not-sound

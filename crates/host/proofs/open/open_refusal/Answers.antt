@@ -8,7 +8,7 @@ use Rattle.forms.specs.Laws.TestsLaws.{neither}
 use Rattle.log_image.specs.State.{decode}
 use Rattle.log_image.specs.Laws.DecodeLaws.{count_entries}
 use Rattle.host.specs.Host.{open_rows}
-use Rattle.host.specs.Laws.IndexLaws.{bytes-sound}
+use Rattle.host.proofs.Laws.IndexLaws.{bytes-sound}
 use Rattle.host.proofs.open.open_refusal.Goals as goal
 
 pub returns-then-verdict-ne1 : goal.returns-then-verdict-ne1

@@ -6,7 +6,7 @@ use Rattle.forms.specs.Laws.ChecksLaws.{passed, given}
 use Rattle.log_image.specs.State.{decode}
 use Rattle.log_image.specs.Sound.{sound, holds}
 use Rattle.host.specs.Host.{ReadFigures, answered, read_rows, read_refusal, read_call, running_of}
-use Rattle.host.specs.Laws.SettledLaws.{answered-unsound, answered-refused, answered-done}
+use Rattle.host.proofs.Laws.SettledLaws.{answered-unsound, answered-refused, answered-done}
 use Rattle.host.proofs.read.read.Goals as goal
 
 pub returns-then-not-sound : goal.returns-then-not-sound

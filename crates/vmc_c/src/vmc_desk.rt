@@ -1,0 +1,15 @@
+// The desk for the program at the dock, for C.
+ghost use Rattle.std.specs.Prelude.{◌≡◌};
+ghost use Rattle.forms.specs.Terms.{counter_id};
+ghost use Rattle.desk_table.specs.Answer.{figures};
+ghost use Rattle.desk_table.specs.Desk.{verified};
+
+use desk_table::answer::Figures;
+
+// The five figures of the desk's answer, with no buffer written.
+#[unsafe(no_mangle)]
+pub extern "C" fn vmc_desk_verify(proof: &[u8], verdicts: &[u8], id: u32, nonce: &[u8]) -> Figures
+    ensures { result ≡ figures (verified proof.now verdicts.now (counter_id id) nonce.now) }
+{
+    vmc::vmc_desk::vmc_desk_verify(proof, verdicts, id, nonce)
+}
