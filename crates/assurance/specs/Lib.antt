@@ -4,7 +4,6 @@ pub mod CallClaim
 pub mod DeskList
 pub mod HostList
 pub mod Invoice
-pub mod Laws
 pub mod ProgramList
 pub mod ServerList
 pub mod Valued

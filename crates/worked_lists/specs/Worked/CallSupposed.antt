@@ -11,7 +11,7 @@ use Rattle.desk_table.specs.declared.answer.Figures.{Figures}
 use Rattle.history.specs.History.{HistoryEvent, increment, read, list, bare, increment_at}
 use Rattle.assurance.specs.CallClaim.{LentUpTo}
 use Rattle.assurance.specs.DeskList.{Call, Item, event, confirmed, call, history, Accepted, call_entry, Certifies, Truth, Unopened, Opening, MadeFrom, Supposed, Clash, Clashed}
-use Rattle.assurance.specs.Laws.ServerAlong.{◌and◌}
+use Rattle.assurance.proofs.Laws.ServerAlong.{◌and◌}
 use Rattle.worked_lists.specs.Worked.CallExample.{earlier-start, short, short_none, to-100, fits-100, longer}
 use Rattle.worked_lists.specs.Worked.DeskExample.{nonce, seven, signed, opening, later, to-101, to-102, to-104, to-105, by_read, left_out, by-increment, since-opening, unraised, fits-101, fits-102, fits-104, fits-105}
 use Rattle.worked_lists.specs.Worked.DeskWitness.{the-list, computed, Everywhere, everywhere-at, UpTo, up-to-at, other-id, by-read-shows, left-out-refused, spelled, OwnerTrue, owner-says, by-read-owner, by-increment-owner, since-opening-owner, LentAt, all-lent, carried_by}

@@ -20,9 +20,9 @@ use Rattle.history.specs.Value.{signed_among, counts, value_at}
 use Rattle.assurance.specs.CallClaim.{Counted}
 use Rattle.assurance.specs.DeskList.{Call, call, At, history, shown, Accepted, closes, Opening, Supposed, Fresh}
 use Rattle.assurance.specs.Valued.{Valued}
-use Rattle.assurance.specs.Laws.CallProof.{call-claim}
-use Rattle.assurance.specs.Laws.ListLaws.{opening-once}
-use Rattle.assurance.specs.Laws.ServerAlong.{◌and◌}
+use Rattle.assurance.proofs.Laws.CallProof.{call-claim}
+use Rattle.assurance.proofs.Laws.ListLaws.{opening-once}
+use Rattle.assurance.proofs.Laws.ServerAlong.{◌and◌}
 use Rattle.worked_lists.specs.Worked.CallExample.{earlier-start, short, short_none, to-100, fits-100, longer}
 use Rattle.worked_lists.specs.Worked.CallSupposed.{longer-list, longer-computed, TrueAt, all_true, opens, supposed, lent, ApartAt, all_apart, no-clash}
 use Rattle.worked_lists.specs.Worked.DeskExample.{nonce, seven, nine, start, signed, opening, later, request, by_read, by-increment, since-opening, unraised}

@@ -40,8 +40,8 @@ use Rattle.history.specs.Value.{signed_among, counts, value_at}
 use Rattle.log_image.specs.Laws.ImageParts.{bytes-append, bytes-log}
 use Rattle.worked_lists.specs.Worked.DeskExample.{nonce, seven, nine, start, signed, opening, later, request, to-101, to-102, to-104, to-105, entry_for, read_at, three, two, one, five, by_read, left_out, by-increment, since-opening, unraised, fits-101, fits-102, fits-104, fits-105, items}
 use Rattle.assurance.specs.DeskList.{Call, Item, event, confirmed, call, At, history, shown, Accepted, closes, kind_of, call_entry, request_of, owner_said, Certifies, Truth, Unopened, Opening, MadeFrom, Supposed, Sound, Fresh, Clash, Clashed, Lent}
-use Rattle.assurance.specs.Laws.DeskProof.{desk-claim}
-use Rattle.assurance.specs.Laws.ListLaws.{opening-once}
+use Rattle.assurance.proofs.Laws.DeskProof.{desk-claim}
+use Rattle.assurance.proofs.Laws.ListLaws.{opening-once}
 
 -- ---- what is computed with, named once
 

@@ -16,14 +16,14 @@ use Rattle.history.proofs.Laws.OpeningsLaws.{running-walk}
 use Rattle.history.specs.Value.{Signatures, counts, value_at}
 use Rattle.history.proofs.Laws.ValueLaws.{value_at-walks-on}
 use Rattle.history.specs.Laws.Walk.{pass, clock_walk}
-use Rattle.assurance.specs.Laws.Accepted.{Passed, count_of, running_of, accepted-passed}
+use Rattle.assurance.proofs.Laws.Accepted.{Passed, count_of, running_of, accepted-passed}
 use Rattle.assurance.specs.CallClaim.{LentUpTo}
 use Rattle.assurance.specs.DeskList.{Call, Item, confirmed, call, At, history, shown, Accepted, closes, kind_of, Truth, Unopened, Opening, MadeFrom, Supposed, Sound, Clashed, Lent}
-use Rattle.assurance.specs.Laws.EntryCounts.{Linked, entries-linked, entry-counts}
-use Rattle.assurance.specs.Laws.EntryWalk.{placed-walk}
-use Rattle.assurance.specs.Laws.ListLaws.{Opened, opened-or-not}
+use Rattle.assurance.proofs.Laws.EntryCounts.{Linked, entries-linked, entry-counts}
+use Rattle.assurance.proofs.Laws.EntryWalk.{placed-walk}
+use Rattle.assurance.proofs.Laws.ListLaws.{Opened, opened-or-not}
 use Rattle.assurance.specs.Valued.{Valued}
-use Rattle.assurance.specs.Laws.ValuedLaws.{opening-valued}
+use Rattle.assurance.proofs.Laws.ValuedLaws.{opening-valued}
 
 module _ (first : GlobalClock) (signed : Signatures) (l : List Item) where
   -- value and openings that a call shows, along the clock

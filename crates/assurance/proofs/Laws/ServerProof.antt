@@ -26,21 +26,21 @@ use Rattle.log_image.specs.Sound.{base, after}
 use Rattle.log_image.specs.State.{State, decode}
 use Rattle.log_store.proofs.Laws.EachRecordLaws.{Each, each-drop, each_take, each-held}
 use Rattle.host.specs.Host.{held_of, entries_of, last_entries, start_call}
-use Rattle.assurance.specs.Laws.AcceptRows.{ones, ones-own}
-use Rattle.assurance.specs.Laws.Accepted.{Passed, count_of, accepted-passed}
-use Rattle.assurance.specs.Laws.DeskFreshness.{accepted-reached, Closed, closed-read, closed-increment, closed-fresh}
+use Rattle.assurance.proofs.Laws.AcceptRows.{ones, ones-own}
+use Rattle.assurance.proofs.Laws.Accepted.{Passed, count_of, accepted-passed}
+use Rattle.assurance.proofs.Laws.DeskFreshness.{accepted-reached, Closed, closed-read, closed-increment, closed-fresh}
 use Rattle.assurance.specs.DeskList.{Call, Item, confirmed, history, shown, Accepted, closes, kind_of, call_entry, owner_said, Certifies, Truth, Opening, Sound}
-use Rattle.assurance.specs.Laws.DeskSoundness.{call-valued, call-sound}
+use Rattle.assurance.proofs.Laws.DeskSoundness.{call-valued, call-sound}
 use Rattle.assurance.specs.HostList.{HostCall, settled_by, Widths}
-use Rattle.assurance.specs.Laws.ListLaws.{at-within, at-stays, history-append, history-grows}
-use Rattle.assurance.specs.Laws.ServerLaws.{desk-append, host-append, image-append, owed-append, next-item, each_at, Certified, certified-stays, certified-before}
+use Rattle.assurance.proofs.Laws.ListLaws.{at-within, at-stays, history-append, history-grows}
+use Rattle.assurance.proofs.Laws.ServerLaws.{desk-append, host-append, image-append, owed-append, next-item, each_at, Certified, certified-stays, certified-before}
 use Rattle.assurance.specs.ServerList.{ServerItem, host, beside, desk_list, host_list, image_after, owed_after, image_at, owed_at, desk_at, Stood, Duty, SeenTo, Honest, Typed, Tells, OpenedTruly, Writes, Borne, with_verdicts, TrueNo, ServerClaim}
-use Rattle.assurance.specs.Laws.ServerStation.{station-yes}
-use Rattle.assurance.specs.Laws.ServerSteps.{Held, AtOne, start-at-one, call-at-one, item-at-one}
-use Rattle.assurance.specs.Laws.ServerValues.{among-signed, tells-stays, tells-before}
-use Rattle.assurance.specs.Laws.ServerWritten.{Written, prove-written, last_written}
+use Rattle.assurance.proofs.Laws.ServerStation.{station-yes}
+use Rattle.assurance.proofs.Laws.ServerSteps.{Held, AtOne, start-at-one, call-at-one, item-at-one}
+use Rattle.assurance.proofs.Laws.ServerValues.{among-signed, tells-stays, tells-before}
+use Rattle.assurance.proofs.Laws.ServerWritten.{Written, prove-written, last_written}
 use Rattle.assurance.specs.Valued.{Valued}
-use Rattle.assurance.specs.Laws.ValuedLaws.{valued_same}
+use Rattle.assurance.proofs.Laws.ValuedLaws.{valued_same}
 
 -- ---- along the list
 

@@ -23,8 +23,8 @@ use Rattle.host.proofs.Laws.SoundParts.{sound-parts}
 use Rattle.host.specs.declared.answer.Figures.{Figures}
 use Rattle.console.specs.Step.{raised_once, yes}
 use Rattle.tablets.specs.Tablet.{nonce_for}
-use Rattle.assurance.specs.Laws.HostSteps.{Kept, Steady, batch-steady}
-use Rattle.assurance.specs.Laws.ProgramLines.{request-with-bytes}
+use Rattle.assurance.proofs.Laws.HostSteps.{Kept, Steady, batch-steady}
+use Rattle.assurance.proofs.Laws.ProgramLines.{request-with-bytes}
 
 -- ---- a tablet's nonces
 

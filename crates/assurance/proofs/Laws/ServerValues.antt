@@ -30,10 +30,10 @@ use Rattle.host.specs.Host.{held_of, entries_of, logged_value}
 use Rattle.host.proofs.Laws.LogEndsLaws.{proper-drop}
 use Rattle.host.proofs.Laws.SoundParts.{sound-parts}
 use Rattle.assurance.specs.DeskList.{Item, request_of, Opening}
-use Rattle.assurance.specs.Laws.HostProofs.{consecutive-take, entries-count}
-use Rattle.assurance.specs.Laws.ServerLaws.{Certified}
+use Rattle.assurance.proofs.Laws.HostProofs.{consecutive-take, entries-count}
+use Rattle.assurance.proofs.Laws.ServerLaws.{Certified}
 use Rattle.assurance.specs.ServerList.{AllSigned, Tells}
-use Rattle.assurance.specs.Laws.ValuedLaws.{valued_same}
+use Rattle.assurance.proofs.Laws.ValuedLaws.{valued_same}
 
 -- the counter's request among signed ones is signed
 pub among-signed : (signed : Signatures) (id : CounterId) (qs : List Request) → AllSigned signed qs → names id qs ≡ true

@@ -19,9 +19,9 @@ use Rattle.grammar.specs.declared.command.Command.{Command}
 use Rattle.console.specs.Session.{line_command}
 use Rattle.console.specs.Step.{byte_nonce, empty_output, yes, desk_figures, request_of, single_figures, shown, ran}
 use Rattle.assurance.specs.HostList.{HostCall, Widths, Taken, last_running, read_running}
-use Rattle.assurance.specs.Laws.HostProof.{prove-fair, last-fair}
-use Rattle.assurance.specs.Laws.HostSteps.{Kept, Steps, rows_other, start-steps, call-steps}
-use Rattle.assurance.specs.Laws.ProgramLines.{call_of, line-fits}
+use Rattle.assurance.proofs.Laws.HostProof.{prove-fair, last-fair}
+use Rattle.assurance.proofs.Laws.HostSteps.{Kept, Steps, rows_other, start-steps, call-steps}
+use Rattle.assurance.proofs.Laws.ProgramLines.{call_of, line-fits}
 use Rattle.assurance.specs.ProgramList.{Prints, Along, ProgramClaim}
 
 -- ---- a proof that was written

@@ -23,14 +23,14 @@ use Rattle.log_image.specs.State.{State, decode}
 use Rattle.host.proofs.Laws.DoneLaws.{settled-passed}
 use Rattle.host.specs.Host.{request_nonce, held_of, entries_of, last_entries, proof_of, last_of, prove_refusal, last_refusal, counted}
 use Rattle.host.proofs.Laws.RefusalLaws.{prove-passed, last-passed}
-use Rattle.assurance.specs.Laws.AcceptLaws.{entries-back, read_back, increment-back, taken}
-use Rattle.assurance.specs.Laws.AcceptRows.{ones}
-use Rattle.assurance.specs.Laws.Accepted.{accepted-passed}
+use Rattle.assurance.proofs.Laws.AcceptLaws.{entries-back, read_back, increment-back, taken}
+use Rattle.assurance.proofs.Laws.AcceptRows.{ones}
+use Rattle.assurance.proofs.Laws.Accepted.{accepted-passed}
 use Rattle.assurance.specs.DeskList.{Call, Accepted, closes}
 use Rattle.assurance.specs.HostList.{HostCall, Taken}
-use Rattle.assurance.specs.Laws.HostProof.{prove-fair, last-fair}
-use Rattle.assurance.specs.Laws.HostProofs.{entries-set-out, set-out-take, found_some}
-use Rattle.assurance.specs.Laws.HostSteps.{Kept, kept-steady}
+use Rattle.assurance.proofs.Laws.HostProof.{prove-fair, last-fair}
+use Rattle.assurance.proofs.Laws.HostProofs.{entries-set-out, set-out-take, found_some}
+use Rattle.assurance.proofs.Laws.HostSteps.{Kept, kept-steady}
 use Rattle.assurance.specs.ServerList.{Writes}
 
 -- the proof of a call, from a confirmation by some entries to the reading that it closes on

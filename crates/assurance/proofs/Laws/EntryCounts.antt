@@ -18,9 +18,9 @@ use Rattle.history.specs.History.{Given, HistoryEvent, list, bare, clock_after, 
 use Rattle.history.proofs.Laws.HistoryLaws.{made-within}
 use Rattle.history.specs.Value.{Signatures, counts}
 use Rattle.history.proofs.Laws.ValueLaws.{signed-once, made-counts, counts-stays}
-use Rattle.assurance.specs.Laws.Accepted.{Passed, count_of, own_of}
+use Rattle.assurance.proofs.Laws.Accepted.{Passed, count_of, own_of}
 use Rattle.assurance.specs.DeskList.{Call, Item, history, call_entry, request_of, owner_said, Certifies, Truth, Clash}
-use Rattle.assurance.specs.Laws.ListLaws.{history-grows}
+use Rattle.assurance.proofs.Laws.ListLaws.{history-grows}
 
 -- an increment with an entry's nonce was made
 shows-made : (m : Made) (e : Entry) → Certifies m e → (given : Given) × (m ≡ made given)

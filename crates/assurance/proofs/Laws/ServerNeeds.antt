@@ -16,14 +16,14 @@ use Rattle.history.specs.History.{clock_after, ReadStands}
 use Rattle.history.specs.Value.{Signatures}
 use Rattle.log_image.specs.State.{decode}
 use Rattle.log_store.proofs.Laws.EachRecordLaws.{Each}
-use Rattle.assurance.specs.Laws.Accepted.{count_of, accepted-passed}
-use Rattle.assurance.specs.Laws.DeskFreshness.{accepted-reached}
+use Rattle.assurance.proofs.Laws.Accepted.{count_of, accepted-passed}
+use Rattle.assurance.proofs.Laws.DeskFreshness.{accepted-reached}
 use Rattle.assurance.specs.DeskList.{Call, Item, confirmed, At, history, kind_of, Truth}
 use Rattle.assurance.specs.HostList.{HostCall, Widths}
-use Rattle.assurance.specs.Laws.HostSteps.{Kept}
-use Rattle.assurance.specs.Laws.ServerLaws.{Certified}
+use Rattle.assurance.proofs.Laws.HostSteps.{Kept}
+use Rattle.assurance.proofs.Laws.ServerLaws.{Certified}
 use Rattle.assurance.specs.ServerList.{Duty, Writes, Borne}
-use Rattle.assurance.specs.Laws.ServerWritten.{Written, prove-written, last_written}
+use Rattle.assurance.proofs.Laws.ServerWritten.{Written, prove-written, last_written}
 
 -- what holds of the entry at each place of some bytes holds of every one
 each_of : {P : Entry → Type 0} (s : List ℕ) (log n : ℕ) → ((k : ℕ) → k < n → P (entry_at s (offset_at s log k))) → Each P (entries_at s log n)

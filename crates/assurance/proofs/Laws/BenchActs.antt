@@ -36,10 +36,10 @@ use Rattle.console.specs.Laws.StepLaws.{first-yes, output-long}
 use Rattle.tablets.specs.Act.{Acted, Renewed, acted, confirmed_shown, following, judged_for, renewed, tried}
 use Rattle.tablets.specs.Tablet.{adopting, for_proof, for_raise, nonce_for, refused_full, refused_stale, succeeded}
 use Rattle.tablets.specs.declared.tablet.Tablet.{Tablet}
-use Rattle.assurance.specs.Laws.BenchRaise.{Judged, judged, nonce-bytes, nonce-long, raise-settled, raise-steady}
-use Rattle.assurance.specs.Laws.HostProof.{prove-fair}
-use Rattle.assurance.specs.Laws.HostProofs.{prove-accepted}
-use Rattle.assurance.specs.Laws.HostSteps.{Kept, Steady, confirm-steady, counted-steady, kept-steady, steady_kept}
+use Rattle.assurance.proofs.Laws.BenchRaise.{Judged, judged, nonce-bytes, nonce-long, raise-settled, raise-steady}
+use Rattle.assurance.proofs.Laws.HostProof.{prove-fair}
+use Rattle.assurance.proofs.Laws.HostProofs.{prove-accepted}
+use Rattle.assurance.proofs.Laws.HostSteps.{Kept, Steady, confirm-steady, counted-steady, kept-steady, steady_kept}
 
 -- ---- a held counter's current value
 

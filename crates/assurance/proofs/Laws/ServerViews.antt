@@ -8,9 +8,9 @@ use Rattle.forms.specs.declared.terms.GlobalClock.{GlobalClock}
 use Rattle.history.specs.Value.{Signatures}
 use Rattle.assurance.specs.DeskList.{Call, Item, At, Accepted}
 use Rattle.assurance.specs.HostList.{HostCall, settled_by, Fair, Runs}
-use Rattle.assurance.specs.Laws.HostProof.{host-claim}
+use Rattle.assurance.proofs.Laws.HostProof.{host-claim}
 use Rattle.assurance.specs.ServerList.{ServerItem, host, beside, ItemAt, desk_list, host_list, image_after, image_at, desk_at, Honest, Typed, Writes, with_verdicts, TrueNo}
-use Rattle.assurance.specs.Laws.ServerProof.{server-claim}
+use Rattle.assurance.proofs.Laws.ServerProof.{server-claim}
 
 -- an item beside the calls stands in the desk's list, behind those before it
 pub desk-place : (l : List ServerItem) (i : ℕ) (x : Item) → ItemAt l i (beside x) → At (desk_list l) (length (desk_at l i)) x

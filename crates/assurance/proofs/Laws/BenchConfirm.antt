@@ -25,10 +25,10 @@ use Rattle.tablets.specs.Rounds.{Depot, after_turns, tablet_of}
 use Rattle.tablets.specs.Tablet.{for_proof, nonce_for}
 use Rattle.tablets.specs.declared.tablet.Tablet.{Tablet}
 use Rattle.assurance.specs.BenchList.{ConfirmClaim, Confirms, confirm_of, set_up}
-use Rattle.assurance.specs.Laws.BenchActs.{Still, acted-refused, answer-judged, answer-own, held-some, proof-accepted, renewed-belief, renewed-shows, tried-refused, written-still}
-use Rattle.assurance.specs.Laws.BenchProof.{Stocked, begun-stocked, set-up-begun, turns-stocked}
-use Rattle.assurance.specs.Laws.BenchRaise.{judged-full, nonce-bytes, nonce-long}
-use Rattle.assurance.specs.Laws.HostSteps.{Kept, kept-steady}
+use Rattle.assurance.proofs.Laws.BenchActs.{Still, acted-refused, answer-judged, answer-own, held-some, proof-accepted, renewed-belief, renewed-shows, tried-refused, written-still}
+use Rattle.assurance.proofs.Laws.BenchProof.{Stocked, begun-stocked, set-up-begun, turns-stocked}
+use Rattle.assurance.proofs.Laws.BenchRaise.{judged-full, nonce-bytes, nonce-long}
+use Rattle.assurance.proofs.Laws.HostSteps.{Kept, kept-steady}
 
 -- ---- a held counter's current value
 

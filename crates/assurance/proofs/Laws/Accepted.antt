@@ -19,7 +19,7 @@ use Rattle.desk_table.specs.Desk.{confirmation, certificate, verdicts_before, ve
 use Rattle.desk_table.proofs.Laws.DeskLaws.{answer_of, verified-parsed}
 use Rattle.desk_table.proofs.Laws.LowestLaws.{lowest-clear}
 use Rattle.assurance.specs.DeskList.{Call, shown, Accepted, closes, kind_of, call_entry, module_said, owner_said}
-use Rattle.assurance.specs.Laws.Rows.{test, refusal-passed, rows-passed, answer-behind, none-lowest, wanted-some, verdicts-right, confirmation-right, said-yes, certificate-said, module-said, digest-right, named-once, certificate-closes, last-closes, last-stands, readings-right, closing-right, closing-read, chain-right}
+use Rattle.assurance.proofs.Laws.Rows.{test, refusal-passed, rows-passed, answer-behind, none-lowest, wanted-some, verdicts-right, confirmation-right, said-yes, certificate-said, module-said, digest-right, named-once, certificate-closes, last-closes, last-stands, readings-right, closing-right, closing-read, chain-right}
 
 -- how many entries the proof of a call has
 abbrev pub count_of : Call → ℕ

@@ -28,10 +28,10 @@ use Rattle.tablets.specs.Rounds.{Depot, Turn, after_turns, answer_at, nobody, ta
 use Rattle.tablets.specs.Tablet.{max_tablets}
 use Rattle.tablets.specs.declared.tablet.Tablet.{Tablet}
 use Rattle.bench.specs.Bench.{placed, started}
-use Rattle.assurance.specs.Laws.BenchActs.{Acts, Still, act, answer-judged, done-believes, request_by, stale-still}
+use Rattle.assurance.proofs.Laws.BenchActs.{Acts, Still, act, answer-judged, done-believes, request_by, stale-still}
 use Rattle.assurance.specs.BenchList.{ActClaim, BenchClaim, Elsewhere, FleetFits, Open, Proper, RunPasses, set_up}
-use Rattle.assurance.specs.Laws.BenchRaise.{Judged, judged-open, judged-stale}
-use Rattle.assurance.specs.Laws.HostSteps.{Kept, open-steady, start-says, start-steps, steady_kept}
+use Rattle.assurance.proofs.Laws.BenchRaise.{Judged, judged-open, judged-stale}
+use Rattle.assurance.proofs.Laws.HostSteps.{Kept, open-steady, start-says, start-steps, steady_kept}
 
 -- ---- tablets by their numbers
 

@@ -20,7 +20,7 @@ use Rattle.host.proofs.Laws.RefusalLaws.{prove-passed, last-passed}
 use Rattle.host.proofs.Laws.SettledLaws.{answered-done}
 use Rattle.host.specs.declared.answer.Figures.{Figures}
 use Rattle.assurance.specs.HostList.{read_running, last_running}
-use Rattle.assurance.specs.Laws.HostProofs.{prove-accepted, last-accepted}
+use Rattle.assurance.proofs.Laws.HostProofs.{prove-accepted, last-accepted}
 
 module _ (s : List ℕ) (bytes : Bytes s) (id : CounterId) (id-fits : id.0 < 2 ^ 32) where
   -- a sound image says a sound state that fits

@@ -29,12 +29,12 @@ use Rattle.host.proofs.Laws.SoundParts.{sound-parts}
 use Rattle.host.specs.declared.answer.Figures.{Figures}
 use Rattle.assurance.specs.DeskList.{Item, event, confirmed, call, history, Opening}
 use Rattle.assurance.specs.HostList.{HostCall, settled_by, Widths}
-use Rattle.assurance.specs.Laws.HostSteps.{Kept, Steady, steady_kept, kept-steady, start-settled, start-steps, start-says, open-steady, tick-steady, batch-steady, counted-steady, confirm-steady, close-steady}
-use Rattle.assurance.specs.Laws.ListLaws.{at-stays, history-append}
-use Rattle.assurance.specs.Laws.ServerLaws.{Certified, certified-stays, certified-read, certified-next}
+use Rattle.assurance.proofs.Laws.HostSteps.{Kept, Steady, steady_kept, kept-steady, start-settled, start-steps, start-says, open-steady, tick-steady, batch-steady, counted-steady, confirm-steady, close-steady}
+use Rattle.assurance.proofs.Laws.ListLaws.{at-stays, history-append}
+use Rattle.assurance.proofs.Laws.ServerLaws.{Certified, certified-stays, certified-read, certified-next}
 use Rattle.assurance.specs.ServerList.{owing, owed_by, paid_by, Stood, AllSigned, Duty, Paid, SeenTo, beside, Tells}
-use Rattle.assurance.specs.Laws.ServerValues.{tells-stays, tells-read, confirm-tells}
-use Rattle.assurance.specs.Laws.ValuedLaws.{opening-valued}
+use Rattle.assurance.proofs.Laws.ServerValues.{tells-stays, tells-read, confirm-tells}
+use Rattle.assurance.proofs.Laws.ValuedLaws.{opening-valued}
 
 -- the events that are owed
 pub data Pending : List (List Request) → List HistoryEvent → Type 0 where

@@ -24,8 +24,8 @@ use Rattle.bench.specs.Result.{result_text}
 use Rattle.bench.specs.declared.bench.Stage.{Stage}
 use Rattle.assurance.specs.BenchInput.{Course, First, InputActs, InputClaim, Never, Suited, ahead_text, between_text, fleet_of, no_orders, order_in, one-run, text_of, not-run, not-started, with_line}
 use Rattle.assurance.specs.BenchList.{FleetFits, Proper, set_up}
-use Rattle.assurance.specs.Laws.BenchProof.{bench-claim, each_snoc}
-use Rattle.assurance.specs.Laws.ProgramLines.{ArgumentsFit, arguments-fit}
+use Rattle.assurance.proofs.Laws.BenchProof.{bench-claim, each_snoc}
+use Rattle.assurance.proofs.Laws.ProgramLines.{ArgumentsFit, arguments-fit}
 
 -- ---- figures
 

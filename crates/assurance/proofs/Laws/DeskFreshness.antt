@@ -12,10 +12,10 @@ use Rattle.history.proofs.Laws.HistoryLaws.{made-stands, stands-within}
 use Rattle.history.specs.Nonce.{Has, New}
 use Rattle.history.proofs.Laws.NonceLaws.{named-has, new-before, new-stands-later, stands-not-new}
 use Rattle.history.specs.Value.{Signatures}
-use Rattle.assurance.specs.Laws.Accepted.{Passed, count_of, accepted-passed}
+use Rattle.assurance.proofs.Laws.Accepted.{Passed, count_of, accepted-passed}
 use Rattle.assurance.specs.DeskList.{Call, Item, history, Accepted, closes, kind_of, call_entry, Truth, Fresh, Clash}
-use Rattle.assurance.specs.Laws.EntryCounts.{Carried, entry-reached, entry-carried}
-use Rattle.assurance.specs.Laws.ListLaws.{history-grows-to}
+use Rattle.assurance.proofs.Laws.EntryCounts.{Carried, entry-reached, entry-carried}
+use Rattle.assurance.proofs.Laws.ListLaws.{history-grows-to}
 
 -- the event that closes the proof of a call at place i: it has the wanted nonce and stands before the call, the clock before it
 -- being not above T

@@ -28,7 +28,7 @@ use Rattle.desk_table.specs.Desk.{confirmation, certificate, entry, verdicts_bef
 use Rattle.desk.specs.Laws.LogVerdictsLaws.{verdicts-counted}
 use Rattle.log_image.specs.Laws.ImageParts.{entries-units}
 use Rattle.log_image.specs.Sound.{consecutive, all_proper}
-use Rattle.assurance.specs.Laws.AcceptRows.{ones, entry-behind, ones-own, yes_to, Clean, clean-verified}
+use Rattle.assurance.proofs.Laws.AcceptRows.{ones, entry-behind, ones-own, yes_to, Clean, clean-verified}
 
 -- what a proof set out for a counter says: the counter's confirmation (v, g), and the entries after g, one for each reading, that chain
 pub record SetOut (id : CounterId) (c : Confirmation) (es : List Entry) : Type 0 where

@@ -30,7 +30,7 @@ use Rattle.host.proofs.Laws.HeldLaws.{Held, held-within, held-chains, entries-co
 use Rattle.host.specs.Host.{held_of, entries_of, running_of, has_entry, request_nonce, proof_of, last_entries, last_of}
 use Rattle.host.proofs.Laws.LogEndsLaws.{proper-drop}
 use Rattle.host.proofs.Laws.SoundParts.{SoundState, sound-parts}
-use Rattle.assurance.specs.Laws.AcceptLaws.{SetOut, read-accepted, increment-accepted}
+use Rattle.assurance.proofs.Laws.AcceptLaws.{SetOut, read-accepted, increment-accepted}
 
 -- ---- some of the entries
 

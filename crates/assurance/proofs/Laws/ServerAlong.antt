@@ -8,7 +8,7 @@ use Rattle.history.specs.Value.{Signatures}
 use Rattle.host.specs.Host.{start_call}
 use Rattle.assurance.specs.DeskList.{Item, history, Opening}
 use Rattle.assurance.specs.HostList.{HostCall, settled_by, Widths}
-use Rattle.assurance.specs.Laws.ListLaws.{at-within}
+use Rattle.assurance.proofs.Laws.ListLaws.{at-within}
 use Rattle.assurance.specs.ServerList.{ServerItem, host, beside, ItemAt, desk_list, host_list, image_after, owed_by, paid_by, owed_after, SeenTo, HonestAt, Honest, Typed, Tells}
 
 infixr 5 ◌and◌

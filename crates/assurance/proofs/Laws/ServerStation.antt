@@ -15,10 +15,10 @@ use Rattle.validity.specs.Proof.{log_offset, shape_at}
 use Rattle.validity.specs.declared.proof.Kind.{Kind}
 use Rattle.desk_table.specs.Desk.{verdicts_before, verdicts_to, verdict_count}
 use Rattle.history.specs.Value.{Signatures}
-use Rattle.assurance.specs.Laws.AcceptRows.{ones, verdicts-within}
-use Rattle.assurance.specs.Laws.Accepted.{Passed, count_of, accepted-passed}
+use Rattle.assurance.proofs.Laws.AcceptRows.{ones, verdicts-within}
+use Rattle.assurance.proofs.Laws.Accepted.{Passed, count_of, accepted-passed}
 use Rattle.assurance.specs.DeskList.{Call, Item, Accepted, kind_of, call_entry}
-use Rattle.assurance.specs.Laws.ListLaws.{at-within}
+use Rattle.assurance.proofs.Laws.ListLaws.{at-within}
 use Rattle.assurance.specs.ServerList.{AllSigned, Borne, TrueNo, with_verdicts, owner_place}
 
 -- ---- what a verdict is on

@@ -15,10 +15,10 @@ use Rattle.host.specs.Host.{request_nonce, held_of, entries_of, last_entries, pr
 use Rattle.host.proofs.Laws.DoneLaws.{settled-passed, value-given}
 use Rattle.host.proofs.Laws.RefusalLaws.{prove-passed}
 use Rattle.host.specs.declared.answer.Figures.{Figures}
-use Rattle.assurance.specs.Laws.AcceptLaws.{read_length, increment-length}
-use Rattle.assurance.specs.Laws.HostCalls.{prove-call-accepted, last-call-accepted}
+use Rattle.assurance.proofs.Laws.AcceptLaws.{read_length, increment-length}
+use Rattle.assurance.proofs.Laws.HostCalls.{prove-call-accepted, last-call-accepted}
 use Rattle.assurance.specs.HostList.{HostCall, settled_by, Widths, Taken, last_running, Fair, Runs, HostClaim}
-use Rattle.assurance.specs.Laws.HostSteps.{Kept, start-steps, call-steps}
+use Rattle.assurance.proofs.Laws.HostSteps.{Kept, start-steps, call-steps}
 
 -- ---- the output of a call that is not refused
 

@@ -26,7 +26,7 @@ use Rattle.host.proofs.Laws.SettledLaws.{settled-refused, settled-done}
 use Rattle.host.proofs.Laws.SoundParts.{sound-parts}
 use Rattle.host.specs.declared.answer.Figures.{Figures}
 use Rattle.assurance.specs.HostList.{HostCall, settled_by, Widths}
-use Rattle.assurance.specs.Laws.HostSteps.{Kept, Steady, start-says, start-steps, open-steady, tick-steady, batch-steady, counted-steady, confirm-steady, close-steady, call-steps}
+use Rattle.assurance.proofs.Laws.HostSteps.{Kept, Steady, start-says, start-steps, open-steady, tick-steady, batch-steady, counted-steady, confirm-steady, close-steady, call-steps}
 use Rattle.assurance.specs.Invoice.{counted_by, counted_after, is_for, Invoiced, Counts, InvoiceClaim}
 
 -- ---- a figure from one state to the next

@@ -6,10 +6,10 @@ use Rattle.forms.specs.declared.terms.GlobalClock.{GlobalClock}
 use Rattle.history.specs.Value.{Signatures}
 use Rattle.assurance.specs.CallClaim.{CallClaim, Counted}
 use Rattle.assurance.specs.DeskList.{Call, Item}
-use Rattle.assurance.specs.Laws.Accepted.{accepted-passed}
-use Rattle.assurance.specs.Laws.DeskFreshness.{accepted-fresh}
-use Rattle.assurance.specs.Laws.DeskSoundness.{call-openings, accepted-valued}
-use Rattle.assurance.specs.Laws.EntryCounts.{entries-linked}
+use Rattle.assurance.proofs.Laws.Accepted.{accepted-passed}
+use Rattle.assurance.proofs.Laws.DeskFreshness.{accepted-fresh}
+use Rattle.assurance.proofs.Laws.DeskSoundness.{call-openings, accepted-valued}
+use Rattle.assurance.proofs.Laws.EntryCounts.{entries-linked}
 use Rattle.assurance.specs.ServerList.{Borne}
 
 -- each accepted call shows the history's value where demand 3's suppositions of its counter hold; where its own verdicts are true, its entries are the
