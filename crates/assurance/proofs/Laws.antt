@@ -6,6 +6,7 @@ pub mod BenchConfirm
 pub mod BenchLines
 pub mod BenchProof
 pub mod BenchRaise
+pub mod CallProof
 pub mod DeskFreshness
 pub mod DeskProof
 pub mod DeskSoundness

@@ -1,7 +1,7 @@
 -- Each accepted call shows the value that the history gives its counter at the reading that the proof closes on, by induction on its place:
--- its confirmation is the counter's opening or was made from a proof accepted before; or there is a clash, in its own proof or in one that the induction
--- comes by. By its own true verdicts it shows the history's openings since its confirmation, or there is a clash in its own proof. Nothing is supposed of
--- what stands after the call. Assumes nothing.
+-- its confirmation is the counter's opening or was made from a proof accepted before. It shows the history's openings since that
+-- confirmation. Or there is a clash, in its own proof or in one that the induction comes by. Nothing is supposed of what stands after the call. Assumes
+-- nothing.
 use Rattle.std.specs.Prelude.{ℕ, zero, suc, ◌+◌, ◌-◌, ◌≤◌, ◌<◌, ◌≡◌, refl, ◌⊎◌, List}
 use Rattle.std.proofs.Common.{sym, subst, subst₂, ◌∙◌, inl, inr, ⊎_elim, arith, ap, zero-add}
 use Rattle.forms.specs.declared.confirmation.Confirmation.{Confirmation}
@@ -17,10 +17,12 @@ use Rattle.history.specs.Value.{Signatures, counts, value_at}
 use Rattle.history.proofs.Laws.ValueLaws.{value_at-walks-on}
 use Rattle.history.specs.Laws.Walk.{pass, clock_walk}
 use Rattle.assurance.proofs.Laws.Accepted.{Passed, count_of, running_of, accepted-passed}
-use Rattle.assurance.specs.DeskList.{Call, Item, confirmed, call, At, history, shown, Accepted, closes, kind_of, Truth, Unopened, Opening, MadeFrom, Supposed, Valued, Sound, Counted, Clashed, Lent}
+use Rattle.assurance.specs.CallClaim.{LentUpTo}
+use Rattle.assurance.specs.DeskList.{Call, Item, confirmed, call, At, history, shown, Accepted, closes, kind_of, Truth, Unopened, Opening, MadeFrom, Supposed, Sound, Clashed, Lent}
 use Rattle.assurance.proofs.Laws.EntryCounts.{Linked, entries-linked, entry-counts}
 use Rattle.assurance.proofs.Laws.EntryWalk.{placed-walk}
 use Rattle.assurance.proofs.Laws.ListLaws.{Opened, opened-or-not}
+use Rattle.assurance.specs.Valued.{Valued}
 use Rattle.assurance.proofs.Laws.ValuedLaws.{opening-valued}
 
 module _ (first : GlobalClock) (signed : Signatures) (l : List Item) where
@@ -43,7 +45,7 @@ module _ (first : GlobalClock) (signed : Signatures) (l : List Item) where
 
   -- the openings are the history's, from the proof's own confirmation up to the reading that it closes on
   pub call-openings : (i : ℕ) (c : Call) → Passed c → Truth first signed l i c → Linked first l i c (count_of c)
-      → Counted first signed l c
+      → (shown c).openings ≡ openings_between signed c.id first (history l) (confirmation c.proof).reading (closes c)
   unfolding openings_between
   call-openings i c passed truth linked =
       let start = (confirmation c.proof).reading in
@@ -53,10 +55,10 @@ module _ (first : GlobalClock) (signed : Signatures) (l : List Item) where
       ∙ zero-add (number_of counting start.0 (count_of c))
       ∙ ap (number_of counting start.0) (sym after)
 
-  -- and the value is, where the confirmation's is
+  -- from the confirmation's value, the value shown
   pub call-valued : (i : ℕ) (c : Call) → Passed c → Truth first signed l i c → Linked first l i c (count_of c)
       → Valued first signed l (history l) c.id (confirmation c.proof).reading (confirmation c.proof).value
-      → Sound first signed l c
+      → Valued first signed l (history l) c.id (closes c) (shown c).value
   call-valued i c passed truth linked valued =
       let n = count_of c in
       let start = (confirmation c.proof).reading in
@@ -74,7 +76,20 @@ module _ (first : GlobalClock) (signed : Signatures) (l : List Item) where
             ∙ ap (value_at signed c.id first (history l) opened) (sym passed.closing);
       }
 
-  module _ (id : CounterId) (i : ℕ) (lent : Lent l id i) (supposed : Supposed first signed l id i) where
+  -- and so it is sound
+  pub call-sound : (i : ℕ) (c : Call) → Passed c → Truth first signed l i c → Linked first l i c (count_of c)
+      → Valued first signed l (history l) c.id (closes c) (shown c).value → Sound first signed l c
+  call-sound i c passed truth linked valued =
+      record {
+        place = valued.place;
+        opening = valued.opening;
+        opens = valued.opens;
+        within = valued.within;
+        value = valued.given;
+        openings = call-openings i c passed truth linked;
+      }
+
+  module _ (id : CounterId) (i : ℕ) (lent : LentUpTo l id i) (supposed : Supposed first signed l id i) where
     -- a confirmation of the counter, where the calls before it show the history's value
     confirmation-valued : (j : ℕ) (k : Confirmation) → j ≤ i → At l j (confirmed k) → k.id ≡ id
         → ((place : ℕ) (c : Call) → place < j → At l place (call c) → c.id ≡ id → Accepted c
@@ -120,8 +135,19 @@ module _ (first : GlobalClock) (signed : Signatures) (l : List Item) where
             (subst (λ (x : CounterId). Valued first signed l (history l) x (confirmation c.proof).reading (confirmation c.proof).value)
             (sym own) start))
 
-  -- an accepted call is sound where what demand 3 supposes of its counter holds up to the call, or there is a clash
-  pub accepted-sound : (i : ℕ) (c : Call) → At l i (call c) → Accepted c → Lent l c.id i → Supposed first signed l c.id i
-      → Sound first signed l c ⊎ Clashed first l c.id i
-  accepted-sound i c stands accepted lent supposed =
+  -- an accepted call shows the history's value where what demand 3 supposes of its counter holds up to the call, or there is a clash
+  pub accepted-valued : (i : ℕ) (c : Call) → At l i (call c) → Accepted c → LentUpTo l c.id i → Supposed first signed l c.id i
+      → Valued first signed l (history l) c.id (closes c) (shown c).value ⊎ Clashed first l c.id i
+  accepted-valued i c stands accepted lent supposed =
       valued-below c.id i lent supposed (suc i) i c (omega arith) (omega arith) stands refl accepted
+
+  -- and is sound there, where the desk is handed bytes
+  pub accepted-sound : Lent l → (i : ℕ) (c : Call) → At l i (call c) → Accepted c → Supposed first signed l c.id i
+      → Sound first signed l c ⊎ Clashed first l c.id i
+  accepted-sound lent i c stands accepted supposed =
+      let lent-to : LentUpTo l c.id i = λ j from up_to there own passed. lent j from there in
+      ⊎_elim
+      (λ linked. ⊎_elim
+      (λ valued. inl (call-sound i c (accepted-passed c accepted) (supposed.truth i c (omega arith) stands refl accepted) linked valued)) inr
+      (accepted-valued i c stands accepted lent-to supposed))
+      inr (call-linked c.id i lent-to supposed i c (omega arith) stands refl accepted)

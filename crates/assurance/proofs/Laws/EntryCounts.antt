@@ -66,7 +66,7 @@ module _ (first : GlobalClock) (signed : Signatures) (l : List Item) (i : ℕ) (
       (made-within first (history (take i l)) (call_entry c k).reading found.0 found.1).1
 
   -- the increment carries the entry's requests, or others with the same digest
-  entry-carried : Bytes c.proof → (k : ℕ) → 1 ≤ k → k ≤ count_of c → Carried first l i c k ⊎ Clash first l i c
+  pub entry-carried : Bytes c.proof → (k : ℕ) → 1 ≤ k → k ≤ count_of c → Carried first l i c k ⊎ Clash first l i c
   unfolding digest_of
   entry-carried lent k low high = from (made_at first l i c k) refl (shows-entry k low high)
     where

@@ -28,9 +28,9 @@ use Rattle.log_store.proofs.Laws.EachRecordLaws.{Each, each-drop, each_take, eac
 use Rattle.host.specs.Host.{held_of, entries_of, last_entries, start_call}
 use Rattle.assurance.proofs.Laws.AcceptRows.{ones, ones-own}
 use Rattle.assurance.proofs.Laws.Accepted.{Passed, count_of, accepted-passed}
-use Rattle.assurance.proofs.Laws.DeskFreshness.{accepted-reached, call-fresh}
-use Rattle.assurance.specs.DeskList.{Call, Item, confirmed, history, shown, Accepted, closes, kind_of, call_entry, owner_said, Certifies, Truth, Opening, Valued, Sound}
-use Rattle.assurance.proofs.Laws.DeskSoundness.{call-openings, call-valued}
+use Rattle.assurance.proofs.Laws.DeskFreshness.{accepted-reached, Closed, closed-read, closed-increment, closed-fresh}
+use Rattle.assurance.specs.DeskList.{Call, Item, confirmed, history, shown, Accepted, closes, kind_of, call_entry, owner_said, Certifies, Truth, Opening, Sound}
+use Rattle.assurance.proofs.Laws.DeskSoundness.{call-valued, call-sound}
 use Rattle.assurance.specs.HostList.{HostCall, settled_by, Widths}
 use Rattle.assurance.proofs.Laws.ListLaws.{at-within, at-stays, history-append, history-grows}
 use Rattle.assurance.proofs.Laws.ServerLaws.{desk-append, host-append, image-append, owed-append, next-item, each_at, Certified, certified-stays, certified-before}
@@ -39,6 +39,7 @@ use Rattle.assurance.proofs.Laws.ServerStation.{station-yes}
 use Rattle.assurance.proofs.Laws.ServerSteps.{Held, AtOne, start-at-one, call-at-one, item-at-one}
 use Rattle.assurance.proofs.Laws.ServerValues.{among-signed, tells-stays, tells-before}
 use Rattle.assurance.proofs.Laws.ServerWritten.{Written, prove-written, last_written}
+use Rattle.assurance.specs.Valued.{Valued}
 use Rattle.assurance.proofs.Laws.ValuedLaws.{valued_same}
 
 -- ---- along the list
@@ -159,6 +160,12 @@ module _ (first : GlobalClock) (signed : Signatures) (d rest : List Item) (pendi
         owner-no = λ k low high named said. absurd (own-yes p accepted verdicts k low high named said);
       }
 
+  -- the event that closes it
+  closing-event : (kind : Kind) → kind_of p ≡ kind → Closed first (d ++ rest) m p
+  closing-event Kind.Read is = closed-read first signed (d ++ rest) m p passed truth is
+  closing-event Kind.Increment is =
+      closed-increment first signed (d ++ rest) m p passed truth is (entry-certified (count_of p) (passed.last is) (omega arith)).carried
+
   borne : Borne first signed (d ++ rest) m p
   borne =
       record {
@@ -166,8 +173,7 @@ module _ (first : GlobalClock) (signed : Signatures) (d rest : List Item) (pendi
         carried = λ k low high. (entry-certified k low high).carried;
         all-signed = λ k low high. (entry-certified k low high).all-signed;
         accepted = accepted;
-        counted = call-openings first signed (d ++ rest) m p passed truth (λ k low high. (entry-certified k low high).carried);
-        fresh = call-fresh first signed (d ++ rest) m p passed truth (λ k low high. (entry-certified k low high).carried);
+        fresh = closed-fresh first (d ++ rest) m p (closing-event (kind_of p) refl);
       }
 
   -- and other verdicts are not true
@@ -194,7 +200,8 @@ tells-sound first signed d rest pending p bears reached tells =
     let there = (tells-stays first signed D (history d) (history rest) k (tells-before first signed D (history d) pending k up_to tells)).1 in
     let start = subst₂ (λ (h : List HistoryEvent) (id : CounterId). Valued first signed D h id k.reading k.value)
     (sym (history-append d rest)) passed.own there in
-    call-valued first signed D (length d) p passed bears.truth bears.carried start
+    call-sound first signed D (length d) p passed bears.truth bears.carried
+    (call-valued first signed D (length d) p passed bears.truth bears.carried start)
 
 -- ---- the two calls that write
 
@@ -310,7 +317,8 @@ shown-tells first signed d m p k bears sound own value reading =
     let es = history (take m d) in
     let up_to : k.reading.0 ≤ (clock_after first es).0 =
     subst (λ (t : GlobalClock). t.0 ≤ (clock_after first es).0) reading (accepted-reached first signed d m p bears.accepted bears.truth) in
-    let there : Valued first signed d (history d) k.id k.reading k.value = subst₃ (Valued first signed d (history d)) own reading value sound in (
+    let there : Valued first signed d (history d) k.id k.reading k.value = subst₃ (Valued first signed d (history d)) own reading value
+    (record { place = sound.place; opening = sound.opening; opens = sound.opens; within = sound.within; given = sound.value }) in (
       up_to,
       valued_same first signed d (history d) es k.id k.reading k.value
           (λ opened.

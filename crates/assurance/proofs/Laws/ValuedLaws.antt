@@ -7,7 +7,8 @@ use Rattle.forms.specs.declared.terms.GlobalClock.{GlobalClock}
 use Rattle.history.specs.History.{HistoryEvent}
 use Rattle.history.specs.Value.{Signatures, value_at}
 use Rattle.history.proofs.Laws.ValueLaws.{value_at-opened}
-use Rattle.assurance.specs.DeskList.{Item, Opening, Valued}
+use Rattle.assurance.specs.DeskList.{Item, Opening}
+use Rattle.assurance.specs.Valued.{Valued}
 
 module _ (first : GlobalClock) (signed : Signatures) (l : List Item) where
   -- an opening whose value is its reading, by any history

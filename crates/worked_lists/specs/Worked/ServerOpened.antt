@@ -40,7 +40,7 @@ use Rattle.host.specs.declared.answer.Figures.{Figures}
 use Rattle.assurance.proofs.Laws.AcceptLaws.{SetOut, Wanted, taken, read_back, read-accepted}
 use Rattle.worked_lists.specs.Worked.CloseWitness.{seven, nine, record_with, state, raise_at, room, holding-image, holding-here}
 use Rattle.assurance.specs.DeskList.{Call, Item, event, confirmed, call, history, shown, Certifies, Truth, Opening, MadeFrom, Supposed, Sound}
-use Rattle.worked_lists.specs.Worked.DeskShown.{everywhere-at}
+use Rattle.worked_lists.specs.Worked.DeskWitness.{everywhere-at}
 use Rattle.assurance.specs.HostList.{HostCall, settled_by, Taken, read_running}
 use Rattle.worked_lists.specs.Worked.HostListWitness.{byte_nonce, nonce-bytes, none-bytes, blank}
 use Rattle.assurance.proofs.Laws.HostProof.{prove-fair}
@@ -64,7 +64,7 @@ unsound {s} b l first running here writes runs opens-first other sound =
     let closes_at = ap (λ (f : DeskFigures). global_clock f.closing) given ∙ ap (λ (x : State). x.clock) here.says in
     let only = opening-once l seven sound.place 0 sound.opening first sound.opens opens-first in
     other
-    (sym shows ∙ sound.given
+    (sym shows ∙ sound.value
     ∙ ap₂ (λ (k : Confirmation) (t : GlobalClock). value_at all-signed seven (global_clock 100) (history l) k.reading t) only closes_at)
 
 -- ---- opened by a second opening
