@@ -1,5 +1,5 @@
--- A further claim of the desk's calls, beside `DeskClaim`: the openings rest on the call's own true verdicts alone, and the value supposes bytes of the
--- counter's own accepted calls alone. Definitions alone; the proof stands in files of its own. Assumes nothing.
+-- A further claim of the desk's calls, beside `DeskClaim`: the openings rest on the call's own true verdicts alone, and the value supposes bytes of
+-- the counter's own accepted calls alone. Definitions alone; the proof stands in files of its own. Assumes nothing.
 use Rattle.std.specs.Prelude.{ℕ, ◌≤◌, ◌≡◌, ◌⊎◌, List}
 use Rattle.forms.specs.Bytes.{Bytes}
 use Rattle.forms.specs.declared.terms.CounterId.{CounterId}
@@ -10,8 +10,8 @@ use Rattle.history.specs.Value.{Signatures}
 use Rattle.assurance.specs.DeskList.{Call, Item, call, At, history, shown, Accepted, closes, Truth, Supposed, Fresh, Clash, Clashed}
 use Rattle.assurance.specs.Valued.{Valued}
 
--- the openings shown are "the history's number of increments after g, the reading of the proof's confirmation, up to T with an owner-signed request for
--- the box"
+-- the openings shown are "the history's number of increments after g, the reading of the proof's confirmation, up to T with an owner-signed request
+-- for the box"
 abbrev pub Counted : GlobalClock → Signatures → List Item → Call → Type 0
 Counted first signed l c = (shown c).openings ≡ openings_between signed c.id first (history l) (confirmation c.proof).reading (closes c)
 
@@ -19,8 +19,8 @@ Counted first signed l c = (shown c).openings ≡ openings_between signed c.id f
 abbrev pub LentUpTo : List Item → CounterId → ℕ → Type 0
 LentUpTo l id i = (j : ℕ) (c : Call) → j ≤ i → At l j (call c) → c.id ≡ id → Accepted c → Bytes c.proof
 
--- For every first reading, every choice of signed requests and every list, of each accepted call: where demand 3's suppositions of its counter hold up
--- to the call, the value shown is the history's, or a clash is exhibited; and where the call's own verdicts are true, the openings shown are the
+-- For every first reading, every choice of signed requests and every list, of each accepted call: where demand 3's suppositions of its counter hold
+-- up to the call, the value shown is the history's, or a clash is exhibited; and where the call's own verdicts are true, the openings shown are the
 -- history's and the reading that the proof closes on is fresh, or a clash is exhibited in the call's own proof.
 abbrev pub CallClaim : Type 0
 CallClaim =

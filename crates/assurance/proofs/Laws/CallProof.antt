@@ -1,5 +1,5 @@
--- The further claim of the desk's calls, proved: `CallClaim` of CallClaim.antt; and that an honest server's proof shows the history's openings, however
--- its counter was opened. Assumes nothing.
+-- The further claim of the desk's calls, proved: `CallClaim` of CallClaim.antt; and that an honest server's proof shows the history's openings,
+-- however its counter was opened. Assumes nothing.
 use Rattle.std.specs.Prelude.{ℕ, refl, List}
 use Rattle.std.proofs.Common.{inl, inr, ⊎_elim, arith}
 use Rattle.forms.specs.declared.terms.GlobalClock.{GlobalClock}
@@ -12,8 +12,8 @@ use Rattle.assurance.proofs.Laws.DeskSoundness.{call-openings, accepted-valued}
 use Rattle.assurance.proofs.Laws.EntryCounts.{entries-linked}
 use Rattle.assurance.specs.ServerList.{Borne}
 
--- each accepted call shows the history's value where demand 3's suppositions of its counter hold; where its own verdicts are true, its entries are the
--- history's, and so are the openings, and it is fresh; or a clash is exhibited
+-- each accepted call shows the history's value where demand 3's suppositions of its counter hold; where its own verdicts are true, its entries are
+-- the history's, and so are the openings, and it is fresh; or a clash is exhibited
 pub call-claim : CallClaim
 call-claim first signed l i c stands accepted lent = (
   accepted-valued first signed l i c stands accepted lent,

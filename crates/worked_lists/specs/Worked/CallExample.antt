@@ -1,6 +1,6 @@
--- The list of DeskExample.antt, and ahead of it two increments that no accepted proof goes over: one given the digest of no list, and one whose list names
--- a counter twice. The digest is left as it is: but for its length nothing here says what it makes of any bytes. That the list meets the claim's
--- suppositions stands in CallSupposed.antt, and what the claim then says in CallWitness.antt. Assumes nothing.
+-- The list of DeskExample.antt, and ahead of it two increments that no accepted proof goes over: one given the digest of no list, and one whose list
+-- names a counter twice. The digest is left as it is: but for its length nothing here says what it makes of any bytes. That the list meets the
+-- claim's suppositions stands in CallSupposed.antt, and what the claim then says in CallWitness.antt. Assumes nothing.
 use Rattle.std.specs.Prelude.{ℕ, List, [], ◌∷◌, length, replicate}
 use Rattle.std.proofs.Common.{ap, lit<, arith}
 use Rattle.forms.specs.Request.{RequestsFit, none, one_more}

@@ -1,5 +1,5 @@
--- The list of CallExample.antt meets every supposition of the claim of CallClaim.antt, and no clash stands in it. By computing, but for the digest, of
--- which nothing but its length and its bytes is used. Assumes nothing.
+-- The list of CallExample.antt meets every supposition of the claim of CallClaim.antt, and no clash stands in it. By computing, but for the digest,
+-- of which nothing but its length and its bytes is used. Assumes nothing.
 use Rattle.std.specs.Prelude.{ℕ, zero, suc, ◌<◌, ◌≡◌, refl, ◌++◌, List, [], ◌∷◌, take}
 use Rattle.std.proofs.Common.{ap, ◌∙◌, lit<, arith}
 use Rattle.forms.specs.Request.{none, joined}

@@ -1,5 +1,5 @@
--- What the claim of CallClaim.antt says of the accepted calls in the list of CallExample.antt, in figures: those of DeskWitness.antt, though the history
--- begins earlier; and that the nonces of the two increments ahead are used up by them. Assumes nothing.
+-- What the claim of CallClaim.antt says of the accepted calls in the list of CallExample.antt, in figures: those of DeskWitness.antt, though the
+-- history begins earlier; and that the nonces of the two increments ahead are used up by them. Assumes nothing.
 use Rattle.std.specs.Prelude.{ℕ, zero, suc, ◌<◌, ◌≡◌, refl, true, false, List, [], ◌∷◌, eqb, length, get_or, take, drop}
 use Rattle.std.proofs.Common.{sym, ap, subst, ◌∙◌, ⊎_elim, arith}
 use Rattle.std.proofs.Math.Option.{some}
