@@ -136,26 +136,15 @@ pub record Supposed (first : GlobalClock) (signed : Signatures) (l : List Item) 
 
 -- ---- the claim
 
--- a value is the one that the history h gives a counter at a reading, from the counter's opening in the list l on; h is the list's own, or what one has
--- of it at a place
-pub record Valued (first : GlobalClock) (signed : Signatures) (l : List Item) (h : List HistoryEvent)
-    (id : CounterId)
-    (reading : GlobalClock)
-    (value : ℕ) : Type 0 where
+-- the value shown is the one that the history gives the counter at the reading that the proof closes on; the openings shown are "the history's
+-- number of increments after g, the reading of the proof's confirmation, up to T with an owner-signed request for the box"
+pub record Sound (first : GlobalClock) (signed : Signatures) (l : List Item) (c : Call) : Type 0 where
   pub place : ℕ
   pub opening : Confirmation
-  pub opens : Opening l id place opening
-  pub within : opening.reading.0 ≤ reading.0
-  pub given : value ≡ value_at signed id first h opening.reading reading
-
--- the value shown is the one that the history gives the counter at the reading that the proof closes on
-abbrev pub Sound : GlobalClock → Signatures → List Item → Call → Type 0
-Sound first signed l c = Valued first signed l (history l) c.id (closes c) (shown c).value
-
--- the openings shown are "the history's number of increments after g, the reading of the proof's confirmation, up to T with an owner-signed request for
--- the box"
-abbrev pub Counted : GlobalClock → Signatures → List Item → Call → Type 0
-Counted first signed l c = (shown c).openings ≡ openings_between signed c.id first (history l) (confirmation c.proof).reading (closes c)
+  pub opens : Opening l c.id place opening
+  pub within : opening.reading.0 ≤ (closes c).0
+  pub value : (shown c).value ≡ value_at signed c.id first (history l) opening.reading (closes c)
+  pub openings : (shown c).openings ≡ openings_between signed c.id first (history l) (confirmation c.proof).reading (closes c)
 
 -- that reading is no lower than the clock was at any place of the list where the wanted nonce was still new to the module
 abbrev pub Fresh : GlobalClock → List Item → Call → Type 0
@@ -183,15 +172,14 @@ pub record Clashed (first : GlobalClock) (l : List Item) (id : CounterId) (i : �
   pub passed : Accepted from
   pub clash : Clash first l place from
 
--- what the desk is handed are bytes, as the code's types give it; nothing is supposed of other counters' calls, of refused ones or of later ones
-abbrev pub Lent : List Item → CounterId → ℕ → Type 0
-Lent l id i = (j : ℕ) (c : Call) → j ≤ i → At l j (call c) → c.id ≡ id → Accepted c → Bytes c.proof
+-- what the desk is handed are bytes, as the code's types give it
+abbrev pub Lent : List Item → Type 0
+Lent l = (i : ℕ) (c : Call) → At l i (call c) → Bytes c.proof
 
--- For every first reading, every choice of signed requests and every list, of each accepted call: where demand 3's suppositions of its counter hold up
--- to the call, the value shown is the history's, or a clash is exhibited; and where the call's own verdicts are true, the openings shown are the
--- history's and the reading that the proof closes on is fresh, or a clash is exhibited in the call's own proof.
+-- For every first reading, every choice of signed requests and every list: each accepted call is sound where demand 3's suppositions of
+-- its counter hold up to the call, and fresh where its verdicts are true; or a clash is exhibited, for freshness in the call's own proof.
 abbrev pub DeskClaim : Type 0
 DeskClaim =
-    (first : GlobalClock) (signed : Signatures) (l : List Item) (i : ℕ) (c : Call) → At l i (call c) → Accepted c → Lent l c.id i
+    (first : GlobalClock) (signed : Signatures) (l : List Item) → Lent l → (i : ℕ) (c : Call) → At l i (call c) → Accepted c
     → (Supposed first signed l c.id i → Sound first signed l c ⊎ Clashed first l c.id i)
-    × (Truth first signed l i c → (Counted first signed l c × Fresh first l c) ⊎ Clash first l i c)
+    × (Truth first signed l i c → Fresh first l c ⊎ Clash first l i c)

@@ -1,8 +1,9 @@
 pub mod BenchInput
 pub mod BenchList
+pub mod CallClaim
 pub mod DeskList
 pub mod HostList
 pub mod Invoice
-pub mod Laws
 pub mod ProgramList
 pub mod ServerList
+pub mod Valued

@@ -17,8 +17,9 @@ use Rattle.history.specs.History.{Given, HistoryEvent, list, increment, read, cl
 use Rattle.history.specs.Value.{Signatures}
 use Rattle.log_image.specs.State.{decode}
 use Rattle.host.specs.Host.{asked, judged_batch, request_nonce, start_call, open_call, tick_call, increment_call, prove_call, last_call, proof_of, last_of, prove_output, last_output}
-use Rattle.assurance.specs.DeskList.{Call, Item, event, confirmed, call, At, history, Accepted, kind_of, call_entry, Certifies, module_said, Truth, Opening, Valued, Sound, Counted, Fresh}
+use Rattle.assurance.specs.DeskList.{Call, Item, event, confirmed, call, At, history, Accepted, kind_of, call_entry, Certifies, module_said, Truth, Opening, Sound, Fresh}
 use Rattle.assurance.specs.HostList.{HostCall, settled_by, Widths}
+use Rattle.assurance.specs.Valued.{Valued}
 
 -- ---- the list
 
@@ -189,15 +190,13 @@ Writes s (HostCall.confirm k verdict) p = ⊥
 Writes s (HostCall.close k verdict) p = ⊥
 
 -- at place m of the desk's list d every yes of the call is true, and so it is accepted. Beyond what a verdict says, the history's increment at each
--- entry's reading carries the entry's very requests, and all of these are signed, whichever counter is wanted; so the openings that it shows are the
--- history's and it is fresh, with no clash
+-- entry's reading carries the entry's very requests, and all of these are signed, whichever counter is wanted; so it is fresh with no clash
 pub record Borne (first : GlobalClock) (signed : Signatures) (d : List Item) (m : ℕ) (p : Call) : Type 0 where
   pub truth : Truth first signed d m p
   pub carried : (k : ℕ) → 1 ≤ k → k ≤ (shape_at p.proof).count
       → Carries (increment_at first (history (take m d)) (call_entry p k).reading) (call_entry p k).requests
   pub all-signed : (k : ℕ) → 1 ≤ k → k ≤ (shape_at p.proof).count → AllSigned signed (call_entry p k).requests
   pub accepted : Accepted p
-  pub counted : Counted first signed d p
   pub fresh : Fresh first d p
 
 -- ---- a station's verdicts
@@ -226,9 +225,9 @@ pub record TrueNo (first : GlobalClock) (signed : Signatures) (d : List Item) (m
 -- ---- the claim
 
 -- For every first reading, every choice of signed requests, every buffer of an image's length and every list that begins with the image of a start at
--- that reading: each proof written, where the server was honest up to it, gets from its place on a true yes to everything, shows the history's openings
--- and is fresh, and a station each of whose noes is true says yes to all of it; and where its counter was opened truly, the value that it shows is the
--- history's. There is no clash, and nothing is supposed of a desk.
+-- that reading: each proof written, where the server was honest up to it, gets from its place on a true yes to everything, and a station each of whose
+-- noes is true says yes to all of it; and where its counter was opened truly, value and openings that it shows are the history's, with no clash and
+-- with nothing supposed of a desk.
 abbrev pub ServerClaim : Type 0
 ServerClaim =
     (first : GlobalClock) (signed : Signatures) (buffer : List ℕ) (l : List ServerItem) → length buffer ≡ image_len → first.0 < 2 ^ 32 → Typed l

@@ -10,7 +10,8 @@ use Rattle.desk_table.specs.Answer.{figures}
 use Rattle.desk_table.specs.Desk.{all_yes, verdicts_for, verified}
 use Rattle.desk_table.specs.declared.answer.Answer.{Answer}
 use Rattle.log_image.specs.State.{decode}
-use Rattle.host.specs.Host.{Settled, start_call, open_call, tick_call, increment_call, increment_figures, read_call, prove_call, last_call, confirm_call}
+use Rattle.host.specs.Host.{Settled, start_call, open_call, tick_call, increment_call, increment_figures, read_call, prove_call, last_call}
+use Rattle.host.specs.Host.{confirm_call}
 use Rattle.host.specs.declared.answer.BatchFigures.{BatchFigures}
 use Rattle.host.specs.declared.answer.Figures.{Figures}
 use Rattle.host.specs.declared.answer.ReadFigures.{ReadFigures}

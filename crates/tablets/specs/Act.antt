@@ -13,8 +13,8 @@ use Rattle.tablets.specs.Tablet.{Tablet, adopting, for_proof, for_raise, nonce_f
 
 -- ---- "it proves, has the desk judge, confirms"
 
--- the desk's answer to what the host writes for a counter and a nonce, with every verdict yes. Of a prove that the host refuses the desk gets no bytes,
--- and says no
+-- the desk's answer to what the host writes for a counter and a nonce, with every verdict yes. Of a prove that the host refuses the desk gets no
+-- bytes, and says no
 abbrev pub judged_for : List ℕ → List ℕ → CounterId → Answer
 judged_for s nonce id =
     let len : ℕ = (prove_call s nonce id (length empty_output)).figures.value in

@@ -1,5 +1,5 @@
--- A tablet, what its acts came to, and the nonces that it asks with: document 02, Note 8: "up to 32 tablets, each with a box, a period in rounds and a
--- believed value". Assumes nothing.
+-- A tablet, what its acts came to, and the nonces that it asks with: document 02, Note 8: "up to 32 tablets, each with a box, a period in rounds
+-- and a believed value". Assumes nothing.
 use Rattle.std.specs.Prelude.{ℕ, ◌+◌, min, List, ◌++◌, replicate}
 use Rattle.forms.specs.Limits.{max_word}
 use Rattle.forms.specs.Number.{digits}

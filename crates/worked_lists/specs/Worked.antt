@@ -1,9 +1,10 @@
 pub mod BenchInputWitness
 pub mod BenchWitness
+pub mod CallExample
+pub mod CallSupposed
+pub mod CallWitness
 pub mod CloseWitness
 pub mod DeskExample
-pub mod DeskShown
-pub mod DeskSupposed
 pub mod DeskWitness
 pub mod HostListWitness
 pub mod InvoiceWitness

@@ -1,10 +1,14 @@
 -- Where the code stands in a session, and what each of its functions does there, whatever it is that answers a line. Assumes nothing.
-use Rattle.std.specs.Prelude.{ℕ, zero, suc, ◌+◌, ◌-◌, ◌*◌, ◌/◌, ◌≤◌, ◌<◌, ◌≡◌, Bool, List, [], ◌∷◌, ◌++◌, eqb, leb, ltb, length, take, drop, get_or, set, refl, true, false, cond}
-use Rattle.std.proofs.Common.{mul-suc, add-one, arith, sym, ap₂, ◌∙◌, subst, append_assoc, length-append, length-take, take-append-drop, drop_of_length-le, take_at, take-suc-set, drop_at, drop-cons, drop-drop, length-take-le, le-leb, lt-ltb, le-ltb, eq-eqb, ne_eqb, ap}
+use Rattle.std.specs.Prelude.{ℕ, zero, suc, ◌+◌, ◌-◌, ◌*◌, ◌/◌, ◌≤◌, ◌<◌, ◌≡◌, Bool, List, [], ◌∷◌, ◌++◌, eqb, leb, ltb, length, take, drop, get_or}
+use Rattle.std.specs.Prelude.{set, refl, true, false, cond}
+use Rattle.std.proofs.Common.{mul-suc, add-one, arith, sym, ap₂, ◌∙◌, subst, append_assoc, length-append, length-take, take-append-drop}
+use Rattle.std.proofs.Common.{drop_of_length-le, take_at, take-suc-set, drop_at, drop-cons, drop-drop, length-take-le, le-leb, lt-ltb, le-ltb, eq-eqb}
+use Rattle.std.proofs.Common.{ne_eqb, ap}
 use Rattle.std.proofs.lemmas.Bool.{lt-leb}
 use Rattle.forms.specs.Bytes.{overwrite}
 use Rattle.forms.specs.Laws.BytesLaws.{overwrite-fits, length-overwrite}
-use Rattle.console.specs.Lines.{Answered, Answering, Session, Printed, Pending, within, over, begun, byte_taken, closed, ended, ended_session, extended, fed_session, max_line, newline, pending_of, resumed, taken}
+use Rattle.console.specs.Lines.{Answered, Answering, Session, Printed, Pending, within, over, begun, byte_taken, closed, ended, ended_session}
+use Rattle.console.specs.Lines.{extended, fed_session, max_line, newline, pending_of, resumed, taken}
 use Rattle.console.specs.declared.session.Line.{Line}
 
 -- where the code stands: the text so far is the first bytes of its buffer
@@ -72,7 +76,8 @@ module _ (s : List ℕ) (k : ℕ) (v : List ℕ) (fits : k + length v ≤ length
   drop-written = ap (drop (k + length v)) split ∙ drop_at (take k s ++ v) (drop (k + length v) s) (k + length v) length-written
 
 -- the line's answer was stored behind the text
-pub took-closed : {S : Type 0} (answer : Answering S) (line : Line) (len : ℕ) (state : S) (before : List ℕ) {told : Answered S} {next : Line} {end : ℕ}
+pub took-closed : {S : Type 0} (answer : Answering S) (line : Line) (len : ℕ) (state : S) (before : List ℕ) {told : Answered S} {next : Line}
+    {end : ℕ}
     {after : S} {text : List ℕ} → told ≡ answer state (pending_of line) → len + length told.text ≤ length before → after ≡ told.state
     → end ≡ len + length told.text → text ≡ overwrite before len told.text → pending_of next ≡ within []
     → Took (closed answer (session_at line len state before)) before next end after text
@@ -147,7 +152,8 @@ printed-at {S} line len state text before {k} e inside behind =
           ∙ ap₂ ◌++◌ (ap (λ (j : Session S). j.text) (sym e)) (behind ∙ ap (λ (m : ℕ). drop m before) n);
     }
 
-pub took-printed : {S : Type 0} {k : Session S} {before : List ℕ} {line : Line} {len : ℕ} {state : S} {text : List ℕ} → Took k before line len state text
+pub took-printed : {S : Type 0} {k : Session S} {before : List ℕ} {line : Line} {len : ℕ} {state : S} {text : List ℕ}
+    → Took k before line len state text
     → Printed k before line len state text
 took-printed {S} {k} {before} {line} {len} {state} {text} t =
     printed-at line len state text before (took-session t) (omega (arith, simp length-take at (ap length t.printed))) t.behind
@@ -179,14 +185,16 @@ drop-later m n s t h e =
     ∙ ap (λ (k : ℕ). drop k t) sum
 
 -- a byte more, where the answer to its line has at most so many bytes
-pub feeding-more : {S : Type 0} {answer : Answering S} {most : ℕ} {k : Session S} {part before : List ℕ} {line next : Line} {len end : ℕ} {state after : S}
+pub feeding-more : {S : Type 0} {answer : Answering S} {most : ℕ} {k : Session S} {part before : List ℕ} {line next : Line} {len end : ℕ}
+    {state after : S}
     {text printed : List ℕ} {i : ℕ} → Feeding answer most k part before line len state text i → i < length part
     → length (answer state (pending_of line)).text ≤ most
     → Took (byte_taken answer (session_at line len state text) (get_or part i 0)) text next end after printed
     → Feeding answer most k part before next end after printed (i + 1)
 feeding-more {S} {answer} {most} {k} {part} {before} {line} {next} {len} {end} {state} {after} {text} {printed} {i} f h few t =
     let left : length part - i ≡ suc (length part - (i + 1)) = omega arith in
-    let one : most * (length part - i) ≡ most * (length part - (i + 1)) + most = ap (λ (n : ℕ). most * n) left ∙ mul-suc most (length part - (i + 1)) in
+    let one : most * (length part - i) ≡ most * (length part - (i + 1)) + most =
+    ap (λ (n : ℕ). most * n) left ∙ mul-suc most (length part - (i + 1)) in
     let long : length (take len text) ≡ len = length-take-le len text (omega (arith, one, f.room, f.same_length)) in
     let grows = text-grows answer most (session_at line len state text) (get_or part i 0) few in
     record {
@@ -201,8 +209,10 @@ feeding-more {S} {answer} {most} {k} {part} {before} {line} {next} {len} {end} {
     }
 
 -- all of them are taken
-pub feeding-all : {S : Type 0} {answer : Answering S} {most : ℕ} {j k : Session S} {part before : List ℕ} {line : Line} {len : ℕ} {state : S} {text : List ℕ}
-    {i : ℕ} → j ≡ taken answer k part → Feeding answer most k part before line len state text i → length part ≤ i → Printed j before line len state text
+pub feeding-all : {S : Type 0} {answer : Answering S} {most : ℕ} {j k : Session S} {part before : List ℕ} {line : Line} {len : ℕ} {state : S}
+    {text : List ℕ}
+    {i : ℕ} → j ≡ taken answer k part → Feeding answer most k part before line len state text i → length part ≤ i
+    → Printed j before line len state text
 unfolding taken
 feeding-all {answer = answer} {part = part} {before = before} {line = line} {len = len} {state = state} {text = text} e f end =
     printed-at line len state text before

@@ -4,7 +4,8 @@ use Rattle.std.proofs.Common.{add-one, arith, ◌∙◌, length-append, leb-fals
 use Rattle.std.specs.Prelude.{◌≡◌, Bool, cond, eqb, leb, length, ℕ, ◌<◌, refl, true, false, List, [], ◌∷◌, ◌++◌}
 use mathlib.Core.List.{flatten}
 use Rattle.std.proofs.lemmas.Bool.{lt-leb}
-use Rattle.console.specs.Lines.{Answering, Session, Pending, within, over, begun, byte_taken, closed, ended, extended, lines, max_line, newline, pending_for, taken, to_first, transcript}
+use Rattle.console.specs.Lines.{Answering, Session, Pending, within, over, begun, byte_taken, closed, ended, extended, lines, max_line, newline}
+use Rattle.console.specs.Lines.{pending_for, taken, to_first, transcript}
 
 -- an input may be cut anywhere
 pub taken-append : {S : Type 0} (answer : Answering S) (k : Session S) (a b : List ℕ) → taken answer k (a ++ b) ≡ taken answer (taken answer k a) b
@@ -93,7 +94,8 @@ module _ {S : Type 0} (answer : Answering S) where
     where
       go : (t : Bool)
           → ((l : List ℕ) (i : S) (t : List ℕ)
-          → (ended answer (taken answer (record { pending = pending_for l; state = i; text = t }) s)).text ≡ t ++ transcript answer i (behind l (lines s)))
+          → (ended answer (taken answer (record { pending = pending_for l; state = i; text = t }) s)).text
+          ≡ t ++ transcript answer i (behind l (lines s)))
           → (ended answer
           (taken answer
           (cond t (closed answer (record { pending = pending_for line; state = state; text = text }))
@@ -109,7 +111,8 @@ module _ {S : Type 0} (answer : Answering S) where
           ∙ rest (line ++ (b ∷ [])) state text
           ∙ ap (λ (ls : List (List ℕ)). text ++ transcript answer state ls) (behind_more line b (lines s))
 
-  pub session-printed : (state : S) (input : List ℕ) → (ended answer (taken answer (fresh (within []) state) input)).text ≡ transcript answer state (lines input)
+  pub session-printed : (state : S) (input : List ℕ) → (ended answer (taken answer (fresh (within []) state) input)).text
+      ≡ transcript answer state (lines input)
   unfolding behind pending_for
   session-printed state input = ended-text [] state [] input
 
@@ -154,5 +157,6 @@ module _ {S : Type 0} (answer : Answering S) where
       ∙ ap (λ (s : List ℕ). (ended answer (taken answer (record { pending = k.pending; state = k.state; text = s }) rest)).text) (append-nil k.text)
       ∙ ap (λ (j : Session S). (ended answer j).text) (sym (taken-append answer (fresh pending state) part rest))
 
-  pub parts-printed : (state : S) (parts : List (List ℕ)) → printed_in_parts answer (within []) state parts ≡ transcript answer state (lines (flatten parts))
+  pub parts-printed : (state : S) (parts : List (List ℕ)) → printed_in_parts answer (within []) state parts
+      ≡ transcript answer state (lines (flatten parts))
   parts-printed state parts = parts-ended (within []) state parts ∙ session-printed state (flatten parts)

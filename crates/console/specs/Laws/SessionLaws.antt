@@ -35,5 +35,6 @@ line-answered image line asked answered left =
     ∙ ap (λ (c : Command). record { state = (ran image c).image; text = answer_text (ran image c).figures }) asked
 
 -- what the program prints for an input that comes in parts
-pub program-printed : (parts : List (List ℕ)) → printed_in_parts line_answered (within []) (replicate {A = ℕ} image_len 0) parts ≡ printed (flatten parts)
+pub program-printed : (parts : List (List ℕ)) → printed_in_parts line_answered (within []) (replicate {A = ℕ} image_len 0) parts
+    ≡ printed (flatten parts)
 program-printed = parts-printed line_answered (replicate {A = ℕ} image_len 0)

@@ -1,5 +1,6 @@
 -- A proof that a line asks for, judged with every verdict yes; the entry of a reading looked for along the log; and a batch of one. Assumes nothing.
-use Rattle.std.specs.Prelude.{◌≡◌, refl, Bool, false, cond, ◌||◌, eqb, ltb, length, get_or, take, drop, replicate, ℕ, zero, suc, ◌+◌, ◌-◌, ◌*◌, ◌≤◌, ◌<◌, true, ◌&&◌, List, [], ◌∷◌, ◌++◌}
+use Rattle.std.specs.Prelude.{◌≡◌, refl, Bool, false, cond, ◌||◌, eqb, ltb, length, get_or, take, drop, replicate, ℕ, zero, suc, ◌+◌, ◌-◌, ◌*◌, ◌≤◌}
+use Rattle.std.specs.Prelude.{◌<◌, true, ◌&&◌, List, [], ◌∷◌, ◌++◌}
 use Rattle.std.proofs.Math.Path.{subst⁻¹}
 use Rattle.std.proofs.Common.{◌∙◌, length-drop, eq-eqb, ne_eqb, lt-ltb, le-ltb, sym, ap, ap₂, append-nil, arith}
 use Rattle.std.proofs.Math.Bool.{or-true, and-false}
@@ -25,13 +26,15 @@ use Rattle.log_image.specs.Laws.LogLaws.{entries-first}
 use Rattle.log_image.specs.Sound.{base, laid_out, after}
 use Rattle.log_image.specs.State.{State, decode, entry_count}
 use Rattle.host.proofs.Laws.DoneLaws.{settled-passed, value-given}
-use Rattle.host.specs.Host.{has_entry, request_nonce, held_of, proof_of, last_of, prove_refusal, last_refusal, counted, increment_figures, increment_call, prove_call, last_call, prove_output, last_output}
+use Rattle.host.specs.Host.{has_entry, request_nonce, held_of, proof_of, last_of, prove_refusal, last_refusal, counted, increment_figures}
+use Rattle.host.specs.Host.{increment_call, prove_call, last_call, prove_output, last_output}
 use Rattle.host.proofs.Laws.LastLaws.{has-none}
 use Rattle.host.proofs.Laws.RefusalLaws.{prove-passed, last-passed}
 use Rattle.host.specs.declared.answer.BatchFigures.{BatchFigures}
 use Rattle.host.specs.declared.answer.Figures.{Figures}
 use Rattle.grammar.specs.declared.command.Command.{Command}
-use Rattle.console.specs.Step.{desk_figures, empty_output, max_verdicts, byte_nonce, raised_once, ran, request_with, shown, single_figures, yes, yes_for}
+use Rattle.console.specs.Step.{desk_figures, empty_output, max_verdicts, byte_nonce, raised_once, ran, request_with, shown, single_figures, yes}
+use Rattle.console.specs.Step.{yes_for}
 
 -- ---- the request in the entry with a reading
 
@@ -47,7 +50,8 @@ FoundIn id t s nonce = laid_out s ≡ true → FoundNonce id t (decode s).log no
 abbrev sought : CounterId → GlobalClock → Entry → Bool
 sought id t e = names id e.requests && eqb e.reading.0 t.0
 
-found_in : (id : CounterId) (t : GlobalClock) (e : Entry) (es : List Entry) → sought id t e ≡ true → FoundNonce id t (e ∷ es) (request_nonce_of id e.requests)
+found_in : (id : CounterId) (t : GlobalClock) (e : Entry) (es : List Entry) → sought id t e ≡ true
+    → FoundNonce id t (e ∷ es) (request_nonce_of id e.requests)
 unfolding request_nonce
 found_in id t e es is has = sym (ap (λ (b : Bool). cond b (request_nonce_of id e.requests) (request_nonce id t es)) is)
 
@@ -55,7 +59,8 @@ found-behind : (id : CounterId) (t : GlobalClock) (e : Entry) (es : List Entry) 
     → FoundNonce id t (e ∷ es) nonce
 unfolding request_nonce has_entry
 found-behind id t e es nonce is found has =
-    found (sym (ap (λ (b : Bool). b || has_entry id t es) is) ∙ has) ∙ sym (ap (λ (b : Bool). cond b (request_nonce_of id e.requests) (request_nonce id t es)) is)
+    found (sym (ap (λ (b : Bool). b || has_entry id t es) is) ∙ has)
+    ∙ sym (ap (λ (b : Bool). cond b (request_nonce_of id e.requests) (request_nonce id t es)) is)
 
 module _ (id : CounterId) (t : GlobalClock) (s : List ℕ) (k n : ℕ) (nonce : List ℕ) where
   -- how many requests of the entry at the place stand before the counter's
@@ -75,7 +80,8 @@ module _ (id : CounterId) (t : GlobalClock) (s : List ℕ) (k n : ℕ) (nonce : 
   unfolding entry_at
   found_first some index at same within e =
       let below : index_at < count_at s k = omega (arith, at, within) in
-      let is : sought id t (entry_at s k) ≡ true = ap₂ ◌&&◌ (named-at true (lt-ltb index_at (count_at s k) below)) (eq-eqb (reading_at s k).0 t.0 same) in
+      let is : sought id t (entry_at s k) ≡ true = ap₂ ◌&&◌ (named-at true (lt-ltb index_at (count_at s k) below))
+      (eq-eqb (reading_at s k).0 t.0 same) in
       let own : nonce ≡ request_nonce_of id (entry_at s k).requests =
       e
       ∙ ap (λ (i : ℕ). (request_at s (k + head_len + request_len * i)).nonce) at
@@ -83,7 +89,8 @@ module _ (id : CounterId) (t : GlobalClock) (s : List ℕ) (k n : ℕ) (nonce : 
       subst⁻¹ (λ (es : List Entry). FoundNonce id t es nonce) (entries-first s k n some)
       (λ has. own ∙ found_in id t (entry_at s k) (entries_at s (k + len_at s k) (n - 1)) is has)
 
-  further : 0 < n → sought id t (entry_at s k) ≡ false → FoundNonce id t (entries_at s (k + len_at s k) (n - 1)) nonce → FoundNonce id t (entries_at s k n) nonce
+  further : 0 < n → sought id t (entry_at s k) ≡ false → FoundNonce id t (entries_at s (k + len_at s k) (n - 1)) nonce
+      → FoundNonce id t (entries_at s k n) nonce
   further some is found =
       subst⁻¹ (λ (es : List Entry). FoundNonce id t es nonce) (entries-first s k n some)
       (found-behind id t (entry_at s k) (entries_at s (k + len_at s k) (n - 1)) nonce is found)
@@ -93,12 +100,14 @@ module _ (id : CounterId) (t : GlobalClock) (s : List ℕ) (k n : ℕ) (nonce : 
       → FoundNonce id t (entries_at s k n) nonce
   unfolding entry_at
   found-later some other =
-      further some (ap (λ (b : Bool). names id (entry_at s k).requests && b) (ne_eqb (reading_at s k).0 t.0 other) ∙ and-false (names id (entry_at s k).requests))
+      further some (ap (λ (b : Bool). names id (entry_at s k).requests && b) (ne_eqb (reading_at s k).0 t.0 other)
+      ∙ and-false (names id (entry_at s k).requests))
 
   pub found-elsewhere : 0 < n → (index : ℕ) → index ≡ index_at → count_at s k ≤ index → FoundNonce id t (entries_at s (k + len_at s k) (n - 1)) nonce
       → FoundNonce id t (entries_at s k n) nonce
   found-elsewhere some index at past =
-      further some (ap (λ (b : Bool). b && eqb (entry_at s k).reading.0 t.0) (named-at false (le-ltb index_at (count_at s k) (omega (arith, at, past)))))
+      further some (ap (λ (b : Bool). b && eqb (entry_at s k).reading.0 t.0)
+      (named-at false (le-ltb index_at (count_at s k) (omega (arith, at, past)))))
 
   pub found_none : n ≤ 0 → FoundNonce id t (entries_at s k n) nonce
   found_none none has = absurd (false≢true (sym (has-none id t s k n none) ∙ has))
@@ -199,9 +208,11 @@ module _ (s : List ℕ) (id : CounterId) where
 
 -- ---- prove and last as lines
 
-module _ (s : List ℕ) (b : ℕ) (id : CounterId) (written : Figures) (call : written ≡ (prove_call s (byte_nonce b) id (length empty_output)).figures) where
+module _ (s : List ℕ) (b : ℕ) (id : CounterId) (written : Figures) (call : written
+    ≡ (prove_call s (byte_nonce b) id (length empty_output)).figures) where
   prove-line-written : written.number ≡ 0 → written.value ≤ max_proof_len
-  prove-line-written done = subst⁻¹ (λ (f : Figures). f.value ≤ max_proof_len) call (prove-written s id (byte_nonce b) (sym (ap (λ (f : Figures). f.number) call) ∙ done)).1
+  prove-line-written done = subst⁻¹ (λ (f : Figures). f.value ≤ max_proof_len) call
+      (prove-written s id (byte_nonce b) (sym (ap (λ (f : Figures). f.number) call) ∙ done)).1
 
   pub prove-line-refused : (written.number ≡ 0 → ⊥) → written ≡ (ran s (Command.Prove b id)).figures
   unfolding ran
@@ -226,7 +237,8 @@ module _ (s : List ℕ) (b : ℕ) (id : CounterId) (written : Figures) (call : w
 
 module _ (s : List ℕ) (id : CounterId) (t : GlobalClock) (written : Figures) (call : written ≡ (last_call s id t (length empty_output)).figures) where
   last-line-written : written.number ≡ 0 → written.value ≤ max_proof_len
-  last-line-written done = subst⁻¹ (λ (f : Figures). f.value ≤ max_proof_len) call (last_written s id t (sym (ap (λ (f : Figures). f.number) call) ∙ done)).1
+  last-line-written done = subst⁻¹ (λ (f : Figures). f.value ≤ max_proof_len) call (last_written s id t (sym (ap (λ (f : Figures). f.number) call)
+      ∙ done)).1
 
   pub last-line-refused : (written.number ≡ 0 → ⊥) → written ≡ (ran s (Command.Last id t)).figures
   unfolding ran
@@ -248,7 +260,8 @@ module _ (s : List ℕ) (id : CounterId) (t : GlobalClock) (written : Figures) (
       ∙ ap₂ (λ (n : ℕ) (o : List ℕ). desk_figures (verified (take n o) (replicate {A = ℕ} (verdicts_for Kind.Increment n) 1) id nonce))
       (ap (λ (f : Figures). f.value) call) out
       ∙ ap (λ (l : List ℕ). desk_figures (verified (take (last_call s id t (length empty_output)).figures.value (last_output s id t empty_output))
-      (replicate {A = ℕ} (verdicts_for Kind.Increment (last_call s id t (length empty_output)).figures.value) 1) id l)) (last_found s id t nonce again found)
+      (replicate {A = ℕ} (verdicts_for Kind.Increment (last_call s id t (length empty_output)).figures.value) 1) id l))
+      (last_found s id t nonce again found)
       ∙ sym (shown-judged _ (last_of (decode s) id t) (last_output s id t empty_output) id (request_nonce id t (decode s).log) again
       (last_written s id t again).0)
 
@@ -260,7 +273,8 @@ request-stored q nonce =
     let long = request-length q nonce in
     let room = length-replicate {A = ℕ} request_len 0 in
     overwrite-fits (replicate {A = ℕ} request_len 0) 0 (request_bytes q) (omega (arith, long, room))
-    ∙ ap (λ (rest : List ℕ). request_bytes q ++ rest) (nothing (drop (0 + length (request_bytes q)) (replicate {A = ℕ} request_len 0)) (length-drop (0 + length (request_bytes q)) (replicate {A = ℕ} request_len 0) ∙ (omega (arith, long, room))))
+    ∙ ap (λ (rest : List ℕ). request_bytes q ++ rest) (nothing (drop (0 + length (request_bytes q)) (replicate {A = ℕ} request_len 0))
+    (length-drop (0 + length (request_bytes q)) (replicate {A = ℕ} request_len 0) ∙ (omega (arith, long, room))))
     ∙ append-nil (request_bytes q)
   where
     nothing : (l : List ℕ) → length l ≡ 0 → l ≡ []

@@ -1,6 +1,7 @@
 -- A tablet's figures of a run are how often it was answered so: none of them reaches its ceiling, since a tablet has at most one turn in a round.
 -- Assumes nothing.
-use Rattle.std.specs.Prelude.{◌≡◌, Bool, true, false, cond, ◌&&◌, length, get_or, set, ℕ, zero, suc, ◌+◌, ◌-◌, ◌≤◌, ◌<◌, min, refl, List, [], ◌∷◌, ◌++◌, eqb}
+use Rattle.std.specs.Prelude.{◌≡◌, Bool, true, false, cond, ◌&&◌, length, get_or, set, ℕ, zero, suc, ◌+◌, ◌-◌, ◌≤◌, ◌<◌, min, refl, List, [], ◌∷◌}
+use Rattle.std.specs.Prelude.{◌++◌, eqb}
 use Rattle.std.proofs.Common.{sym, ap, ◌∙◌, true≢false, get_or-set_other, get_or-set_same, eqb-true, ne_eqb, arith}
 use Rattle.std.proofs.lemmas.Bool.{eqb-false}
 use Rattle.forms.specs.Limits.{max_word}
@@ -159,7 +160,8 @@ turns-append k [] ys = omega arith
 turns-append k (x ∷ xs) ys = omega (arith, turns-append k xs ys)
 
 -- at most one in a round, and none of a number that is past
-round-few : (k round number : ℕ) (ts : List Tablet) → (turns_by k (turns_from round number ts) ≤ 1) × (k < number → turns_by k (turns_from round number ts) ≡ 0)
+round-few : (k round number : ℕ) (ts : List Tablet) → (turns_by k (turns_from round number ts) ≤ 1)
+    × (k < number → turns_by k (turns_from round number ts) ≡ 0)
 unfolding turns_by turns_from
 round-few k round number [] = (omega arith, λ past. refl)
 round-few k round number (t ∷ ts) = go (divides t.period round) (eqb number k) refl (round-few k round (suc number) ts)
@@ -185,7 +187,12 @@ rounds-few : (k n done : ℕ) (ts : List Tablet) → turns_by k (turns_of done n
 unfolding turns_of turns_by
 rounds-few k zero done ts = omega arith
 rounds-few k (suc n) done ts =
-    omega (arith, turns-append k (turns_from (suc done) 0 ts) (turns_of (suc done) n ts), (round-few k (suc done) 0 ts).0, rounds-few k n (suc done) ts)
+    omega (
+      arith,
+      turns-append k (turns_from (suc done) 0 ts) (turns_of (suc done) n ts),
+      (round-few k (suc done) 0 ts).0,
+      rounds-few k n (suc done) ts,
+    )
 
 -- ---- the figures of a run
 

@@ -1,6 +1,8 @@
 -- Rounds in which nobody acts: the next round with an act lies behind those that are done, and none before it has one. Assumes nothing.
-use Rattle.std.specs.Prelude.{◌≡◌, refl, Bool, false, not, cond, ◌&&◌, List, [], ◌∷◌, ℕ, zero, suc, ◌+◌, ◌*◌, ◌/◌, ◌%◌, ◌≤◌, ◌<◌, min, eqb, length, get_or, drop}
-use Rattle.std.proofs.Common.{sym, ap, subst, ◌∙◌, div-add-mod', div-lt_iff_lt-mul, div-mul-le_self, mul-le-mul_right, arith, eq-eqb, ne_eqb, add-one, drop_of_length-le, drop-cons}
+use Rattle.std.specs.Prelude.{◌≡◌, refl, Bool, false, not, cond, ◌&&◌, List, [], ◌∷◌, ℕ, zero, suc, ◌+◌, ◌*◌, ◌/◌, ◌%◌, ◌≤◌, ◌<◌, min, eqb, length}
+use Rattle.std.specs.Prelude.{get_or, drop}
+use Rattle.std.proofs.Common.{sym, ap, subst, ◌∙◌, div-add-mod', div-lt_iff_lt-mul, div-mul-le_self, mul-le-mul_right, arith, eq-eqb, ne_eqb, add-one}
+use Rattle.std.proofs.Common.{drop_of_length-le, drop-cons}
 use Rattle.std.proofs.Math.Nat.{lt-div-mul-add}
 use Rattle.tablets.specs.Laws.Idle.{never, next_round, next_turn}
 use Rattle.tablets.specs.Rounds.{divides, turns_from}

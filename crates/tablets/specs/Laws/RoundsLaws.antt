@@ -1,6 +1,7 @@
 -- Turns and rounds: a turn keeps every tablet's period, so that the turns of a run are known before it begins; a run goes on round by round, and
 -- rounds in which nobody acts are passed over. Assumes nothing.
-use Rattle.std.specs.Prelude.{◌≡◌, refl, Bool, true, false, cond, ℕ, zero, suc, ◌+◌, ◌-◌, ◌≤◌, ◌<◌, eqb, ltb, length, get_or, set, drop, List, [], ◌∷◌, ◌++◌, map}
+use Rattle.std.specs.Prelude.{◌≡◌, refl, Bool, true, false, cond, ℕ, zero, suc, ◌+◌, ◌-◌, ◌≤◌, ◌<◌, eqb, ltb, length, get_or, set, drop, List, []}
+use Rattle.std.specs.Prelude.{◌∷◌, ◌++◌, map}
 use Rattle.std.proofs.Common.{sym, ap, ap₂, ◌∙◌, add-one, arith, ltb-true, ltb-false, drop_of_length-le, drop-cons, drop-set-lt, get_or-take}
 use mathlib.Core.List.{foldl-append}
 use Rattle.std.proofs.Math.Seq.{map-set_same, take-set-lt}
@@ -8,7 +9,8 @@ use Rattle.host.specs.declared.answer.Figures.{Figures}
 use Rattle.tablets.specs.Act.{Acted, acted, following}
 use Rattle.tablets.specs.Laws.Idle.{never, next_round}
 use Rattle.tablets.specs.Laws.IdleLaws.{next-later, round-idle}
-use Rattle.tablets.specs.Rounds.{Depot, Fleet, Turn, after_rounds, after_turns, depot_of, divides, nobody, tablet_of, tablets_of, turned, turns_from, turns_of}
+use Rattle.tablets.specs.Rounds.{Depot, Fleet, Turn, after_rounds, after_turns, depot_of, divides, nobody, tablet_of, tablets_of, turned, turns_from}
+use Rattle.tablets.specs.Rounds.{turns_of}
 use Rattle.tablets.specs.Tablet.{Tablet}
 
 -- ---- periods stay

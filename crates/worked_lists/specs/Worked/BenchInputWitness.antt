@@ -18,7 +18,7 @@ use Rattle.bench.specs.Bench.{no_order, printed}
 use Rattle.bench.specs.Result.{result_text, tablet_line}
 use Rattle.assurance.specs.BenchInput.{First, Never, depot_for, fleet_of, no_orders, one-run, order_in, text_of, with_line}
 use Rattle.assurance.specs.BenchList.{set_up}
-use Rattle.assurance.specs.Laws.BenchLines.{input-claim}
+use Rattle.assurance.proofs.Laws.BenchLines.{input-claim}
 use Rattle.worked_lists.specs.Worked.BenchWitness.{alone, alone-fits, alone-passes, alone-stale, alone-turns, begun, depot}
 use Rattle.worked_lists.specs.Worked.HostListWitness.{blank as buffer}
 

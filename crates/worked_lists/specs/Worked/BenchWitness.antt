@@ -11,10 +11,10 @@ use Rattle.tablets.specs.Act.{acted, tried}
 use Rattle.tablets.specs.Rounds.{Depot, Turn, after_rounds, after_turns, answer_at, nobody, tablet_of, turned, turns_from, turns_of}
 use Rattle.tablets.specs.Tablet.{blank, for_proof, nonce_for}
 use Rattle.tablets.specs.declared.tablet.Tablet.{Tablet}
-use Rattle.assurance.specs.Laws.BenchActs.{Still, current-kept}
+use Rattle.assurance.proofs.Laws.BenchActs.{Still, current-kept}
 use Rattle.assurance.specs.BenchList.{Confirms, Elsewhere, FleetFits, Open, Proper, set_up}
-use Rattle.assurance.specs.Laws.BenchConfirm.{confirm-claim}
-use Rattle.assurance.specs.Laws.BenchProof.{Begun, Knows, Stocked, begun-stocked, bench-claim, done-turn, knows-passes, run-passes, set-up-begun, stale-turn, turn-knows, turned-stocked, unaware-stale}
+use Rattle.assurance.proofs.Laws.BenchConfirm.{confirm-claim}
+use Rattle.assurance.proofs.Laws.BenchProof.{Begun, Knows, Stocked, begun-stocked, bench-claim, done-turn, knows-passes, run-passes, set-up-begun, stale-turn, turn-knows, turned-stocked, unaware-stale}
 use Rattle.worked_lists.specs.Worked.HostListWitness.{blank as buffer, blank-long}
 
 -- ---- tablets of box 7, which act in every round

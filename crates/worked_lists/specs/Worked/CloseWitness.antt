@@ -23,7 +23,7 @@ use Rattle.grammar.specs.declared.command.Command.{Command}
 use Rattle.console.specs.Step.{ran}
 use Rattle.assurance.specs.HostList.{HostCall, settled_by, Taken, Fair, Runs}
 use Rattle.worked_lists.specs.Worked.HostListWitness.{byte_nonce, nonce-bytes, request, joined_bytes, none-bytes, blank, blank-long}
-use Rattle.assurance.specs.Laws.HostProof.{host-claim}
+use Rattle.assurance.proofs.Laws.HostProof.{host-claim}
 use Rattle.worked_lists.specs.Worked.Places.{IsImageOf, Done, begun-image, begun-here, signed, confirmed-fits, opening, opens, raises, proves, closing, closes, shows}
 
 -- ---- the counters

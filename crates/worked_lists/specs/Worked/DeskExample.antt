@@ -1,10 +1,8 @@
 -- An example of the desk's list, with the calls in it: clock reads, a tick, increments of which two are shared by two counters and one carries a
 -- stranger's request, four accepted calls, of which the second goes on from the first and the first and the third have the stranger's entry in them, and
--- a refused one; ahead of them two increments that no accepted proof goes over, one given the digest of no list and one whose list names a counter twice.
--- The digest is left as it is: but for its length nothing here says what it makes of any bytes. What the desk answers to the calls stands in
--- DeskShown.antt, that the list meets the claim's suppositions in DeskSupposed.antt, and what the claim then says in DeskWitness.antt. Assumes nothing.
-use Rattle.std.specs.Prelude.{ℕ, zero, suc, ◌^◌, ◌<◌, refl, not, List, [], ◌∷◌, length, replicate}
-use Rattle.std.proofs.Common.{ap, lit<, arith}
+-- a refused one. The digest is left as it is: nothing here says what it makes of any bytes. DeskWitness.antt says what holds of the list. Assumes nothing.
+use Rattle.std.specs.Prelude.{ℕ, zero, suc, ◌^◌, ◌<◌, refl, not, List, [], ◌∷◌, replicate}
+use Rattle.std.proofs.Common.{lit<}
 use Rattle.forms.specs.Bytes.{Bytes, same, window}
 use Rattle.forms.specs.Entry.{Entry, log_bytes}
 use Rattle.forms.specs.Limits.{nonce_len}
@@ -16,9 +14,8 @@ use Rattle.forms.specs.declared.request.Request.{Request}
 use Rattle.forms.specs.declared.terms.CounterId.{CounterId}
 use Rattle.forms.specs.declared.terms.GlobalClock.{GlobalClock}
 use Rattle.digest.specs.Seal.{digest_of}
-use Rattle.digest.specs.Laws.SealLaws.{digest-length}
 use Rattle.validity.specs.Proof.{Fields, proof_bytes}
-use Rattle.history.specs.History.{DigestOfNone, increment, read, list, bare}
+use Rattle.history.specs.History.{increment, read, list}
 use Rattle.history.specs.Value.{Signatures}
 use Rattle.assurance.specs.DeskList.{Call, Item, event, confirmed, call}
 
@@ -35,12 +32,9 @@ seven = counter_id 7
 unfoldable pub nine : CounterId
 nine = counter_id 9
 
--- the first reading, and that at which the counters are opened
+-- the first reading
 unfoldable pub start : GlobalClock
-start = global_clock 98
-
-unfoldable pub opened-at : GlobalClock
-opened-at = global_clock 100
+start = global_clock 100
 
 -- every request is signed but those with nonce 2
 unfoldable pub signed : Signatures
@@ -48,7 +42,7 @@ signed request = not (same request.nonce (nonce 2))
 
 -- the opening of counter 7
 unfoldable pub opening : Confirmation
-opening = record { id = seven; value = 100; reading = opened-at }
+opening = record { id = seven; value = 100; reading = start }
 
 -- the confirmation made from the proof that `by_read` hands in
 unfoldable pub later : Confirmation
@@ -60,19 +54,8 @@ later = record { id = seven; value = 101; reading = global_clock 103 }
 unfoldable pub request : ℕ → CounterId → ℕ → Request
 request b id before = record { nonce = nonce b; id = id; before = before }
 
--- what the increment to 99 is given, nineteen bytes 3: a digest has twenty, so it is the digest of no list
-unfoldable pub short : List ℕ
-short = replicate {A = ℕ} 19 3
-
-pub short_none : DigestOfNone short
-unfolding short
-short_none qs fit same = omega (arith, ap (λ (l : List ℕ). length l) same, digest-length qs)
-
--- the requests under the increment to 100, both of counter 9; those to 101, which counters 7 and 9 share; the stranger's, for counter 7; none; those to
--- 104, shared too; and one of counter 9
-unfoldable pub to-100 : List Request
-to-100 = request 3 nine 98 ∷ request 10 nine 98 ∷ []
-
+-- the requests under the increment to 101, which counters 7 and 9 share; the stranger's, for counter 7; none; those to 104, shared too; and one of
+-- counter 9
 unfoldable pub to-101 : List Request
 to-101 = request 1 seven 100 ∷ request 8 nine 100 ∷ []
 
@@ -161,13 +144,9 @@ bytes_of zero b low k = lit< tt
 bytes_of (suc n) b low zero = low
 bytes_of (suc n) b low (suc k) = bytes_of n b low k
 
-fits : (b id before : ℕ) → b < 256 → id < 2 ^ 32 → before < 2 ^ 32 → RequestFits (request b (counter_id id) before)
+pub fits : (b id before : ℕ) → b < 256 → id < 2 ^ 32 → before < 2 ^ 32 → RequestFits (request b (counter_id id) before)
 unfolding nonce request
 fits b id before byte small low = record { nonce = refl; bytes = bytes_of 20 b byte; id = small; before = low }
-
-pub fits-100 : RequestsFit to-100
-unfolding nine to-100
-fits-100 = one_more (fits 3 9 98 (lit< tt) (lit< tt) (lit< tt)) (one_more (fits 10 9 98 (lit< tt) (lit< tt) (lit< tt)) none)
 
 pub fits-101 : RequestsFit to-101
 unfolding seven nine to-101
@@ -185,13 +164,11 @@ pub fits-105 : RequestsFit to-105
 unfolding nine to-105
 fits-105 = one_more (fits 9 9 104 (lit< tt) (lit< tt) (lit< tt)) none
 
--- the items by place, from 0; the clock goes from 98 to 105
+-- the items by place, from 0; the clock goes from 100 to 105
 unfoldable pub items : List Item
 items =
-    event (increment (bare short short_none))
-    ∷ event (increment (list to-100 fits-100))
-    ∷ confirmed opening
-    ∷ confirmed (record { id = nine; value = 100; reading = opened-at })
+    confirmed opening
+    ∷ confirmed (record { id = nine; value = 100; reading = start })
     ∷ event (increment (list to-101 fits-101))
     ∷ event (increment (list to-102 fits-102))
     ∷ event (increment (list [] none))

@@ -36,9 +36,9 @@ use Rattle.host.proofs.Laws.RaiseLaws.{started-sound, incremented-sound}
 use Rattle.host.proofs.Laws.SettledLaws.{answered-done, settled-done}
 use Rattle.host.specs.declared.answer.Figures.{Figures}
 use Rattle.assurance.specs.HostList.{HostCall, Taken, read_running, Runs}
-use Rattle.assurance.specs.Laws.HostProof.{host-claim}
-use Rattle.assurance.specs.Laws.HostSteps.{start-stores}
-use Rattle.assurance.specs.Laws.ProgramLines.{request-bytes}
+use Rattle.assurance.proofs.Laws.HostProof.{host-claim}
+use Rattle.assurance.proofs.Laws.HostSteps.{start-stores}
+use Rattle.assurance.proofs.Laws.ProgramLines.{request-bytes}
 
 -- ---- the list
 

@@ -20,7 +20,7 @@ use Rattle.host.specs.declared.answer.Figures.{Figures}
 use Rattle.assurance.specs.HostList.{HostCall, settled_by, Widths}
 use Rattle.worked_lists.specs.Worked.HostListWitness.{byte_nonce, nonce-bytes, request, joined_bytes, none-bytes, blank, blank-long}
 use Rattle.assurance.specs.Invoice.{counted_by, figure_of, Counts}
-use Rattle.assurance.specs.Laws.InvoiceProof.{invoice-claim}
+use Rattle.assurance.proofs.Laws.InvoiceProof.{invoice-claim}
 use Rattle.worked_lists.specs.Worked.Places.{IsImageOf, Done, begun-image, begun-here, signed, confirmed-fits, opening, opens, raises, prove-length, proves, closing, closes}
 
 abbrev seven : CounterId

@@ -24,7 +24,7 @@ use Rattle.host.proofs.Laws.SettledLaws.{answered-done, settled-done}
 use Rattle.host.specs.declared.answer.Figures.{Figures}
 use Rattle.assurance.specs.HostList.{HostCall, settled_by, Taken, read_running, Fair}
 use Rattle.worked_lists.specs.Worked.HostListWitness.{byte_nonce, blank, start-image, lens_of, log-length, batch-settled}
-use Rattle.assurance.specs.Laws.HostSteps.{Kept, Steady, steady_kept, open-steady, tick-steady, batch-steady, counted-steady, confirm-steady, close-steady}
+use Rattle.assurance.proofs.Laws.HostSteps.{Kept, Steady, steady_kept, open-steady, tick-steady, batch-steady, counted-steady, confirm-steady, close-steady}
 
 -- an image that every call may be handed, and the state that it says
 pub record IsImageOf (s : List ℕ) (st : State) : Type 0 where

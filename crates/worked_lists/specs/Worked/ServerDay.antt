@@ -23,9 +23,9 @@ use Rattle.host.specs.declared.answer.Figures.{Figures}
 use Rattle.assurance.specs.DeskList.{Call, event, confirmed, call, history}
 use Rattle.assurance.specs.HostList.{HostCall, settled_by, Widths}
 use Rattle.worked_lists.specs.Worked.HostListWitness.{byte_nonce, nonce-bytes, request, joined_bytes, none-bytes, blank}
-use Rattle.assurance.specs.Laws.HostSteps.{start-steps, start-says}
+use Rattle.assurance.proofs.Laws.HostSteps.{start-steps, start-says}
 use Rattle.worked_lists.specs.Worked.Places.{IsImageOf, Done, begun-image, begun-here, signed, confirmed-fits, opening, opens, raises, proves, lasts, ticks, confirms, closes}
-use Rattle.assurance.specs.Laws.ServerAlong.{◌and◌, Asking, AlongBut, honest-along, TypedItem, typed-along}
+use Rattle.assurance.proofs.Laws.ServerAlong.{◌and◌, Asking, AlongBut, honest-along, TypedItem, typed-along}
 use Rattle.assurance.specs.ServerList.{ServerItem, host, beside, desk_list, host_list, image_after, owing, owed_after, image_at, owed_at, desk_at, AllSigned, SeenTo, Honest, Typed, handed_prove, handed_last}
 
 -- ---- the counters, the requests and the confirmations

@@ -22,13 +22,13 @@ use Rattle.worked_lists.specs.Worked.CloseWitness.{seven, record_with, state, si
 use Rattle.assurance.specs.DeskList.{Call, event, confirmed, At, history}
 use Rattle.assurance.specs.HostList.{HostCall, settled_by}
 use Rattle.worked_lists.specs.Worked.HostListWitness.{byte_nonce, nonce-bytes, blank, blank-long, start-image}
-use Rattle.assurance.specs.Laws.HostSteps.{start-stores, start-steps}
+use Rattle.assurance.proofs.Laws.HostSteps.{start-stores, start-steps}
 use Rattle.worked_lists.specs.Worked.Places.{IsImageOf, Done, begun-image, signed, confirmed-fits, opening, raises, proves, lasts, confirms}
-use Rattle.assurance.specs.Laws.ServerAlong.{◌and◌, AlongBut, honest-but, typed-along}
+use Rattle.assurance.proofs.Laws.ServerAlong.{◌and◌, AlongBut, honest-but, typed-along}
 use Rattle.worked_lists.specs.Worked.ServerFaulty.{Faulty, all-signed, any-signed, asks, asks-fit, behind-start, each_first, entry-borne, handed-from, handed-last, last-faulty, last-is, last-writes, lasting, not-asked, not_made, nothing-asked, opened-writes, owed, owed-asks, paid-asks, proving, raise, signed-asks}
 use Rattle.assurance.specs.ServerList.{ServerItem, host, beside, desk_list, host_list, image_after, owing, handed_last, Paid, SeenTo, Writes}
-use Rattle.assurance.specs.Laws.ServerNeeds.{confirmation-needed, entries-needed, prove-needs, last-needs}
-use Rattle.assurance.specs.Laws.ServerWritten.{Written, prove-written, last_written}
+use Rattle.assurance.proofs.Laws.ServerNeeds.{confirmation-needed, entries-needed, prove-needs, last-needs}
+use Rattle.assurance.proofs.Laws.ServerWritten.{Written, prove-written, last_written}
 
 -- ---- a start that is not at the module's clock
 

@@ -23,10 +23,10 @@ use Rattle.assurance.specs.DeskList.{Call, Item, event, confirmed, history}
 use Rattle.assurance.specs.HostList.{HostCall, settled_by}
 use Rattle.worked_lists.specs.Worked.HostListWitness.{byte_nonce, nonce-bytes, blank}
 use Rattle.worked_lists.specs.Worked.Places.{Done, signed, opening, proves, lasts}
-use Rattle.assurance.specs.Laws.ServerLaws.{Certified}
+use Rattle.assurance.proofs.Laws.ServerLaws.{Certified}
 use Rattle.assurance.specs.ServerList.{ServerItem, host, beside, ItemAt, desk_list, image_at, desk_at, owing, handed_prove, handed_last, AllSigned, Paid, HonestAt, Typed, Writes, Borne}
-use Rattle.assurance.specs.Laws.ServerNeeds.{entries-needed}
-use Rattle.assurance.specs.Laws.ServerWritten.{Written, last_written}
+use Rattle.assurance.proofs.Laws.ServerNeeds.{entries-needed}
+use Rattle.assurance.proofs.Laws.ServerWritten.{Written, last_written}
 
 -- the first of some
 pub each_first : {A : Type 0} {P : A → Type 0} {x : A} {xs : List A} → Each P (x ∷ xs) → P x

@@ -37,21 +37,21 @@ use Rattle.log_store.proofs.Laws.RaiseStores.{entry-of-fits}
 use Rattle.log_store.specs.Effect.{updated, raised_by}
 use Rattle.host.specs.Host.{Asked, asked, asked_from, batch_refusal, judge_next, judged_batch, counted, increment_call}
 use Rattle.host.specs.declared.answer.Figures.{Figures}
-use Rattle.assurance.specs.Laws.AcceptLaws.{SetOut, Wanted, taken, read_back, read-accepted}
+use Rattle.assurance.proofs.Laws.AcceptLaws.{SetOut, Wanted, taken, read_back, read-accepted}
 use Rattle.worked_lists.specs.Worked.CloseWitness.{seven, nine, record_with, state, raise_at, room, holding-image, holding-here}
 use Rattle.assurance.specs.DeskList.{Call, Item, event, confirmed, call, history, shown, Certifies, Truth, Opening, MadeFrom, Supposed, Sound}
-use Rattle.worked_lists.specs.Worked.DeskShown.{everywhere-at}
+use Rattle.worked_lists.specs.Worked.DeskWitness.{everywhere-at}
 use Rattle.assurance.specs.HostList.{HostCall, settled_by, Taken, read_running}
 use Rattle.worked_lists.specs.Worked.HostListWitness.{byte_nonce, nonce-bytes, none-bytes, blank}
-use Rattle.assurance.specs.Laws.HostProof.{prove-fair}
-use Rattle.assurance.specs.Laws.ListLaws.{opening-once}
+use Rattle.assurance.proofs.Laws.HostProof.{prove-fair}
+use Rattle.assurance.proofs.Laws.ListLaws.{opening-once}
 use Rattle.worked_lists.specs.Worked.Places.{IsImageOf, Done, begun-image, begun-here, signed, confirmed-fits, opening, opens, raises, proves, reads}
-use Rattle.assurance.specs.Laws.ProgramLines.{request-with-bytes}
-use Rattle.assurance.specs.Laws.ServerAlong.{◌and◌, AlongBut, honest-along, typed-along}
+use Rattle.assurance.proofs.Laws.ProgramLines.{request-with-bytes}
+use Rattle.assurance.proofs.Laws.ServerAlong.{◌and◌, AlongBut, honest-along, typed-along}
 use Rattle.worked_lists.specs.Worked.ServerFaulty.{all-signed, any-signed, proving, handed-from, opened-writes}
 use Rattle.assurance.specs.ServerList.{ServerItem, host, beside, desk_list, host_list, image_after, image_at, owing, Paid, Honest, Typed, Writes}
-use Rattle.assurance.specs.Laws.ServerProof.{own-yes, entries-each}
-use Rattle.assurance.specs.Laws.ServerWritten.{Written, set-down}
+use Rattle.assurance.proofs.Laws.ServerProof.{own-yes, entries-each}
+use Rattle.assurance.proofs.Laws.ServerWritten.{Written, set-down}
 
 -- a proof of 7 is not sound where the history gives 7, from its opening on, another value than the host reads
 unsound : {s : List ℕ} {st : State} (b : ℕ) (l : List Item) (first : Confirmation) (running : Running) → IsImageOf s st
@@ -64,7 +64,7 @@ unsound {s} b l first running here writes runs opens-first other sound =
     let closes_at = ap (λ (f : DeskFigures). global_clock f.closing) given ∙ ap (λ (x : State). x.clock) here.says in
     let only = opening-once l seven sound.place 0 sound.opening first sound.opens opens-first in
     other
-    (sym shows ∙ sound.given
+    (sym shows ∙ sound.value
     ∙ ap₂ (λ (k : Confirmation) (t : GlobalClock). value_at all-signed seven (global_clock 100) (history l) k.reading t) only closes_at)
 
 -- ---- opened by a second opening

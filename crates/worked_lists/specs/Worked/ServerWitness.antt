@@ -21,15 +21,15 @@ use Rattle.host.specs.declared.answer.Figures.{Figures}
 use Rattle.assurance.specs.DeskList.{confirmed, At, history, shown, Opening, Sound}
 use Rattle.assurance.specs.HostList.{HostCall, settled_by}
 use Rattle.worked_lists.specs.Worked.HostListWitness.{byte_nonce, blank, blank-long}
-use Rattle.assurance.specs.Laws.HostProof.{prove-fair}
+use Rattle.assurance.proofs.Laws.HostProof.{prove-fair}
 use Rattle.worked_lists.specs.Worked.Places.{IsImageOf, Done, begun-image, signed, shows}
-use Rattle.assurance.specs.Laws.ServerAlong.{Asking, AlongBut, along-at, OpensItem}
+use Rattle.assurance.proofs.Laws.ServerAlong.{Asking, AlongBut, along-at, OpensItem}
 use Rattle.worked_lists.specs.Worked.ServerDay.{seven, nine, signing, room, proving, lasting, seven-image, both-image, raised-image, ticked-image, proved-image, lasted-image, confirmed-image, closed-image, again-image, shown-image, ahead-image, restarted-image, reopened-image, ticked-here, prove-first, prove-second, again-here, prove-third, reopened-here, prove-fourth, proof_at, first-call, second_call, third-call, fourth-call, day, honest-day, AskedFrom, day-typed}
-use Rattle.assurance.specs.Laws.ServerLaws.{image-append}
+use Rattle.assurance.proofs.Laws.ServerLaws.{image-append}
 use Rattle.assurance.specs.ServerList.{host, desk_list, host_list, image_after, owed_after, image_at, desk_at, Tells, OpenedTruly, Writes, Borne, TrueNo}
-use Rattle.assurance.specs.Laws.ServerProof.{server-claim, shown-tells}
-use Rattle.assurance.specs.Laws.ServerStation.{ones-true-no}
-use Rattle.assurance.specs.Laws.ServerWritten.{prove-written}
+use Rattle.assurance.proofs.Laws.ServerProof.{server-claim, shown-tells}
+use Rattle.assurance.proofs.Laws.ServerStation.{ones-true-no}
+use Rattle.assurance.proofs.Laws.ServerWritten.{prove-written}
 
 -- ---- where the proofs are written
 

@@ -1,5 +1,5 @@
--- `tablets::rounds::run` meets its contract. The loop's invariant: the rounds from the next one with an act on, on what the rounds so far left, come to
--- the whole run's. Assumes nothing.
+-- `tablets::rounds::run` meets its contract. The loop's invariant: the rounds from the next one with an act on, on what the rounds so far left, come
+-- to the whole run's. Assumes nothing.
 use Rattle.std.proofs.Common.{◌≡◌, ◌+◌, ◌-◌, ◌<◌, length}
 use Rattle.tablets.specs.Rounds.{after_rounds, depot_of}
 use Rattle.tablets.proofs.rounds.run.Given as goal
