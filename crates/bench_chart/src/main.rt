@@ -11,14 +11,14 @@ use bench::session::feed;
 use console::session::{Line, MAX_LINE};
 use forms::image::Image;
 use grammar::order::{Order, read_order};
+use input::read_full;
 use log_image::header::entry_count;
 use std::io;
-use std::io::Read;
 use tablets::rounds::{Fleet, run};
 use text::line::{put_figure, put_numeral, put_words};
 use text::part::{between, find, front};
 
-const INPUT: u64 = 4096;
+const INPUT: usize = 4096;
 
 const ROWS: u32 = 30;
 
@@ -122,8 +122,8 @@ fn take_lines(rt: &impl Print, input: &[u8], image: &mut [u8]) -> io::Result<()>
 }
 
 fn main(rt: HostRuntime) -> io::Result<()> {
-    let mut input = Vec::new(rt.alloc());
-    rt.stdin().take(INPUT).read_to_end(&mut input)?;
+    let mut input = [0u8; INPUT];
+    let len = read_full(&mut rt.stdin(), &mut input)?;
     let mut image = [0u8; Image::LEN];
-    take_lines(&rt, &input, &mut image)
+    take_lines(&rt, &input[..len], &mut image)
 }

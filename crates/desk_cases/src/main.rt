@@ -8,15 +8,15 @@ mod log;
 mod long;
 mod table;
 
+use input::read_full;
 use std::io;
-use std::io::Read;
 
 // The most bytes of the input that are read.
-const INPUT: u64 = 65536;
+const INPUT: usize = 65536;
 
 fn main(rt: HostRuntime) -> io::Result<()> {
-    let mut text = Vec::new(rt.alloc());
-    rt.stdin().take(INPUT).read_to_end(&mut text)?;
-    table::run(&rt, &text)?;
+    let mut text = [0u8; INPUT];
+    let len = read_full(&mut rt.stdin(), &mut text)?;
+    table::run(&rt, &text[..len])?;
     long::run(&rt)
 }

@@ -12,20 +12,20 @@ mod sample;
 mod sweep;
 mod table;
 
+use input::read_full;
 use std::io;
-use std::io::Read;
 
 // The most bytes of the input that are read.
 const INPUT: usize = 65536;
 
 fn main(rt: HostRuntime) -> io::Result<()> {
-    let mut text = Vec::new(rt.alloc());
-    rt.stdin().take(INPUT as u64).read_to_end(&mut text)?;
+    let mut text = [0u8; INPUT];
+    let len = read_full(&mut rt.stdin(), &mut text)?;
     let mut entries = [0u8; sample::ENTRIES_ROOM];
     sample::fill(&mut entries);
-    table::run(&rt, &text, &entries)?;
+    table::run(&rt, &text[..len], &entries)?;
     // Where the input fills its room there may be more of it.
-    if INPUT <= text.len() {
+    if INPUT <= len {
         rt.write_all(b"no room for all cases\n")?;
     }
     Ok(())

@@ -10,16 +10,16 @@ mod judge;
 mod table;
 
 use forms::image::Image;
+use input::read_full;
 use std::io;
-use std::io::Read;
 
 // The most bytes of the input that are read.
-const INPUT: u64 = 65536;
+const INPUT: usize = 65536;
 
 fn main(rt: HostRuntime) -> io::Result<()> {
-    let mut text = Vec::new(rt.alloc());
-    rt.stdin().take(INPUT).read_to_end(&mut text)?;
+    let mut text = [0u8; INPUT];
+    let len = read_full(&mut rt.stdin(), &mut text)?;
     let mut image = [0u8; Image::LEN];
     let mut kept = [0u8; Image::LEN];
-    table::run(&rt, &text, &mut image, &mut kept)
+    table::run(&rt, &text[..len], &mut image, &mut kept)
 }
