@@ -1,6 +1,6 @@
 // A picture of a run: the input is depot_bench's, and in place of the tablets' figures it prints how full the log is, in up to thirty rows of as many
-// rounds: the last round of the row, the requests held behind it, and a bar of one mark for each 16 of them, of which 64 are a full log. Lines that the
-// bench would pass over are passed over without a word. The input has at most 4,096 bytes.
+// rounds: the last round of the row, the requests held behind it, and a bar of one mark for each 16 of them, of which 64 are a full log. Lines that
+// the bench would pass over are passed over without a word. The input has at most 4,096 bytes.
 #![tactic(auto)]
 
 ghost use Rattle.std.specs.Prelude.{◌≤◌, ◌<◌};

@@ -1,5 +1,5 @@
-// The bench on further inputs, the files of `data` that the arguments name: for each it prints the name and a newline, and then what the bench writes,
-// each time from an image that is all zero. The longest input is last, so that a run that is ended early has taken the others:
+// The bench on further inputs, the files of `data` that the arguments name: for each it prints the name and a newline, and then what the bench
+// writes, each time from an image that is all zero. The longest input is last, so that a run that is ended early has taken the others:
 // - small: three tablets of two boxes;
 // - idle: as many rounds as a figure of 32 bits can say, in few of which a tablet acts, up to the clock's end;
 // - faults: lines that are none, in every place, and a clock near its end;

@@ -41,8 +41,8 @@ fn compared(wanted: Wanted, value: u32, closing: GlobalClock, books: &mut [u8]) 
     tally::add_if(books, tally::HOST_DIFFERS, value != wanted.value);
 }
 
-// The desk's answer to the proof of a kind and a length at the start of an output, given yes for every signature, as a slip of the day; no slip where the
-// desk refuses.
+// The desk's answer to the proof of a kind and a length at the start of an output, given yes for every signature, as a slip of the day; no slip where
+// the desk refuses.
 pub(crate) fn judged(
     out: &[u8],
     len: u32,
