@@ -9,7 +9,7 @@
  *     tools/archive
  *     cc -Iinclude prog.c target/staticlib/libvmc.a
  *
- * The archive needs no other library.
+ * The archive needs no library but that of C.
  */
 #ifndef VMC_H
 #define VMC_H
