@@ -2,12 +2,12 @@
 -- has space and the clock can rise"; and that what an act does behind 22 and 24 comes about. Definitions alone; the proofs stand in files of their own.
 -- Assumes nothing.
 use Rattle.std.specs.Prelude.{ℕ, ◌^◌, ◌≤◌, ◌<◌, ◌≡◌, ◌⊎◌, length, get_or, List, [], ◌∷◌, ◌++◌}
+use Rattle.desk_table.specs.Answer.{shows}
 use mathlib.Core.List.{foldl}
 use Rattle.forms.specs.Entry.{units}
 use Rattle.forms.specs.Limits.{image_len, max_word, max_units}
 use Rattle.forms.specs.declared.terms.CounterId.{CounterId}
 use Rattle.forms.specs.declared.terms.GlobalClock.{GlobalClock}
-use Rattle.desk_table.specs.declared.answer.Answer.{Answer}
 use Rattle.log_image.specs.State.{decode}
 use Rattle.host.specs.Host.{Settled, confirm_call, current_of, prove_call, running_of}
 use Rattle.console.specs.Step.{empty_output, yes}
@@ -83,7 +83,7 @@ confirm_of s nonce id =
 
 -- the desk accepts the proof and shows that value and reading, the host takes the confirmation, and an act leaves its image and believes the value
 pub record Confirms (s nonce : List ℕ) (id : CounterId) (after : Acted) : Type 0 where
-  pub accepted : judged_for s nonce id ≡ Answer.Accepted (running_of (decode s) id) (decode s).clock
+  pub accepted : judged_for s nonce id ≡ shows (running_of (decode s) id) (decode s).clock
   pub taken : (confirm_of s nonce id).figures.number ≡ 0
   pub left : after.image ≡ (confirm_of s nonce id).image
   pub believed : after.tablet.belief ≡ current_of (decode s) id

@@ -6,4 +6,3 @@
 pub mod bench;
 pub mod result;
 pub mod run;
-pub mod session;

@@ -30,13 +30,11 @@ pub(crate) fn put_result(text: &mut [u8], at: usize, fleet: Fleet) -> usize
     requires { at + max_result ≤ length text.old }
     ensures value { result ≡ at + length (result_text (tablets_of fleet)) }
     ensures text_after { text.new ≡ overwrite text.old at (result_text (tablets_of fleet)) }
+    ensures short { result ≤ at + max_result }
 {
-    let size = fleet.size();
     let mut end = at;
-    let mut i = 0;
-    while i < size {
-        end = put_tablet(text, end, fleet.tablets[i]);
-        i += 1;
+    for tablet in fleet.as_slice() {
+        end = put_tablet(text, end, *tablet);
     }
     end
 }

@@ -1,6 +1,7 @@
 -- Lines in, answers out: document 01, "The program", whatever it is that answers a line. What is printed for an input, and what stands between two
 -- parts of an input that is read in parts. Assumes nothing.
-use Rattle.std.specs.Prelude.{ℕ, ◌/◌, Bool, true, false, cond, ◌≡◌, List, [], ◌∷◌, ◌++◌, eqb, leb, ltb, length, take, drop}
+use Rattle.std.specs.Prelude.{ℕ, ◌+◌, ◌/◌, ◌≤◌, Bool, true, false, cond, ◌≡◌, List, [], ◌∷◌, ◌++◌, eqb, leb, ltb, length, take, drop}
+use Rattle.forms.specs.Bytes.{overwrite}
 use Rattle.console.specs.declared.session.Line.{Line}
 
 abbrev pub newline : ℕ
@@ -39,6 +40,10 @@ pub record Answered (S : Type 0) : Type 0 where
 -- what answers the lines of an input, with a state that is kept from each to the next
 abbrev pub Answering : Type 0 → Type 0
 Answering S = S → Pending → Answered S
+
+-- a line is answered where there is room for the text of every answer; with less, nothing is done
+unfoldable pub answered_within : {S : Type 0} → Answering S → ℕ → ℕ → S → Pending → Answered S
+answered_within answer most room state line = cond (leb most room) (answer state line) (record { state = state; text = [] })
 
 -- what is printed for some lines, from a state on
 unfoldable pub transcript : {S : Type 0} → Answering S → S → List (List ℕ) → List ℕ
@@ -87,7 +92,7 @@ ended answer k = cond (begun k.pending) (closed answer k) k
 -- ---- what the code holds of a line
 
 abbrev pub pending_of : Line → Pending
-pending_of line = cond line.over over (within (take line.len line.bytes))
+pending_of line = cond (leb line.len max_line) (within (take line.len line.bytes)) over
 
 abbrev pub resumed : {S : Type 0} → Line → S → Session S
 resumed line state = record { pending = pending_of line; state = state; text = [] }
@@ -107,3 +112,10 @@ pub record Printed {S : Type 0} (k : Session S) (before : List ℕ) (line : Line
   pub at-state : state ≡ k.state
   pub at_len : len ≡ length k.text
   pub at-text : text ≡ k.text ++ drop (length k.text) before
+
+-- where the code stands behind an answer of at most some bytes: the state is as told, and the text is stored from a place on
+pub record Told {S : Type 0} (told : Answered S) (most : ℕ) (before : List ℕ) (at : ℕ) (state : S) (len : ℕ) (text : List ℕ) : Type 0 where
+  pub at-state : state ≡ told.state
+  pub at_len : len ≡ at + length told.text
+  pub stored : text ≡ overwrite before at told.text
+  pub short : length told.text ≤ most

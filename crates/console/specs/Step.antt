@@ -6,9 +6,8 @@ use Rattle.forms.specs.Request.{request_bytes}
 use Rattle.forms.specs.declared.terms.CounterId.{CounterId}
 use Rattle.validity.specs.Proof.{Fields}
 use Rattle.validity.specs.declared.proof.Kind.{Kind}
-use Rattle.desk_table.specs.Answer.{figures}
+use Rattle.desk_table.specs.Answer.{figures, Answer}
 use Rattle.desk_table.specs.Desk.{all_yes, verdicts_for, verified}
-use Rattle.desk_table.specs.declared.answer.Answer.{Answer}
 use Rattle.log_image.specs.State.{decode}
 use Rattle.host.specs.Host.{Settled, start_call, open_call, tick_call, increment_call, increment_figures, read_call, prove_call, last_call}
 use Rattle.host.specs.Host.{confirm_call}

@@ -4,21 +4,23 @@ ghost use Rattle.forms.specs.Entry.{entries_at};
 ghost use Rattle.forms.specs.Limits.{image_log_offset};
 ghost use Rattle.log_image.specs.Sound.{laid_out};
 ghost use Rattle.log_image.specs.State.{entry_count};
+ghost use Rattle.desk_table.specs.Answer.{told};
 ghost use Rattle.desk_table.specs.Desk.{verified};
 ghost use Rattle.grammar.specs.declared.command.Command.{Command};
 ghost use Rattle.console.specs.Step.{desk_figures, ran, yes_for};
 ghost use Rattle.console.specs.Laws.StepLaws.{FoundIn, FoundNonce};
 
 use desk::verify::verify;
+use desk_table::answer;
 use desk_table::answer::Answer;
 use desk_table::verdicts::verdict_count;
 use forms::entry::{Head, entry_len};
 use forms::image::Image;
+use forms::nonce;
 use forms::nonce::Nonce;
 use forms::request::Request;
 use forms::requests::find;
 use forms::terms::{CounterId, GlobalClock};
-use forms::{nonce, refusal};
 use host::answer::Figures;
 use host::last::last;
 use host::prove::prove;
@@ -34,7 +36,7 @@ const MAX_VERDICTS: usize = 2 + 2 * (Proof::MAX_UNITS as usize);
 // Ruled out, among others: a desk that gets the whole output, with what an earlier proof left there; one that is told no where there is nobody to
 // say yes.
 pub fn judge(kind: Kind, len: u32, out: &[u8], id: CounterId, nonce: &[u8]) -> Answer
-    ensures { result ≡ verified (take len out.now) (yes_for kind len) id nonce.now }
+    ensures { told result ≡ verified (take len out.now) (yes_for kind len) id nonce.now }
 {
     let yes = [1u8; MAX_VERDICTS];
     let verdicts = front(&yes, verdict_count(kind, len as usize));
@@ -43,9 +45,9 @@ pub fn judge(kind: Kind, len: u32, out: &[u8], id: CounterId, nonce: &[u8]) -> A
 
 // Of the desk's answer, number and value.
 fn show(answer: Answer) -> Figures
-    ensures { result ≡ desk_figures answer }
+    ensures { result ≡ desk_figures (told answer) }
 {
-    let figures = answer.figures();
+    let figures = answer::Figures::from(answer);
     Figures {
         number: figures.number,
         value: figures.value,
@@ -60,10 +62,10 @@ pub(crate) fn show_prove(image: &mut [u8], byte: u8, id: CounterId) -> Figures
     let nonce = [byte; nonce::LEN];
     let mut out = [0u8; Proof::MAX_LEN];
     let written = prove(image, &nonce, id, &mut out);
-    if written.number != refusal::NONE {
-        return written;
-    }
-    show(judge(Kind::Read, written.value, &out, id, &nonce))
+    let Ok(len) = written else {
+        return written.into();
+    };
+    show(judge(Kind::Read, len, &out, id, &nonce))
 }
 
 // The nonce of a counter's request in the entry with a reading, where one of the entries of the log is that.
@@ -72,11 +74,9 @@ fn nonce_among(image: &[u8], id: CounterId, t: GlobalClock, count: u32) -> Nonce
     ensures { FoundNonce id t (entries_at image.now image_log_offset count) result }
 {
     let mut offset = Image::LOG;
-    let mut left = count;
-    while 0 < left {
-        left -= 1;
+    for _ in 0..count {
         let requests = Head::count_at(image, offset);
-        if Head::reading_at(image, offset).0 == t.0 {
+        if Head::reading_at(image, offset) == t {
             let index = find(image, offset + Head::LEN, requests, id);
             if index < requests {
                 return Request::nonce_at(
@@ -108,8 +108,8 @@ pub(crate) fn show_last(image: &mut [u8], id: CounterId, t: GlobalClock) -> Figu
     let nonce = request_nonce(image, id, t);
     let mut out = [0u8; Proof::MAX_LEN];
     let written = last(image, id, t, &mut out);
-    if written.number != refusal::NONE {
-        return written;
-    }
-    show(judge(Kind::Increment, written.value, &out, id, &nonce))
+    let Ok(len) = written else {
+        return written.into();
+    };
+    show(judge(Kind::Increment, len, &out, id, &nonce))
 }

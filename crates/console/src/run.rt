@@ -1,6 +1,7 @@
 // The program's input and output: the input is read in parts, and the answers of each part are written before the next is read. No contract can
-// say what is read and written; what is printed for a part is `feed`'s.
-use crate::session::{Line, MAX_ANSWER, feed, finish};
+// say what is read and written; what is printed for a part is `Session::feed`'s.
+use crate::commands::{Commands, MAX_ANSWER};
+use crate::session::{Session, TakeLine};
 use forms::image::Image;
 use std::io;
 use std::io::{Read, Write};
@@ -11,63 +12,30 @@ const PART: usize = 4096;
 
 const TEXT: usize = PART * MAX_ANSWER;
 
-#[derive(Clone, Copy)]
-struct Turn {
-    line: Line,
-    // Another turn is to be taken.
-    more: bool,
-}
-
-// Reads a part of the input and writes what its lines answer.
-fn take_turn<R: Read, W: Write>(
+// Reads an input to its end, in parts of at most the room given, from an image that is all zero, and writes what its lines answer, for which the
+// text has room. A read or a write that fails ends it with the error, with no further line answered.
+pub fn run_session<T: TakeLine + Drop, R: Read, W: Write>(
+    taker: T,
+    part: &mut [u8],
+    text: &mut [u8],
     input: &mut R,
     output: &mut W,
-    line: Line,
-    image: &mut [u8],
-) -> io::Result<Turn> {
-    let mut part = [0u8; PART];
-    let got = input.read(&mut part)?;
-    if got == 0 {
-        return Ok(Turn { line, more: false });
-    }
-    let mut text = [0u8; TEXT];
-    let fed = feed(line, front(&part, got), image, &mut text);
-    output.write_all(front(&text, fed.len))?;
-    Ok(Turn {
-        line: fed.line,
-        more: true,
-    })
-}
-
-// Answers a last line without newline.
-fn end<W: Write>(output: &mut W, line: Line, image: &mut [u8]) -> io::Result<()> {
-    let mut text = [0u8; MAX_ANSWER];
-    let fed = finish(line, image, &mut text);
-    output.write_all(front(&text, fed.len))
-}
-
-// Takes turns until the input ends, and answers the last. The turns are counted up to the largest number of 64 bits, which no input reaches.
-fn take_turns<R: Read, W: Write>(
-    input: &mut R,
-    output: &mut W,
-    image: &mut [u8],
-) -> io::Result<Turn> {
-    let mut last = Turn {
-        line: Line::new(),
-        more: true,
-    };
+) -> io::Result<()> {
+    let mut image = [0u8; Image::LEN];
+    let mut session = Session::new(taker);
     for _ in 0..u64::MAX {
-        if !last.more {
+        let got = input.read(part)?;
+        if got == 0 {
             break;
         }
-        last = take_turn(input, output, last.line, image)?;
+        let len = session.feed(&part[..got], &mut image, text);
+        output.write_all(front(text, len))?;
     }
-    Ok(last)
+    let len = session.finish(&mut image, text);
+    output.write_all(front(text, len))
 }
 
-// Reads the input to its end, from an image that is all zero. A read or a write that fails ends it with the error, with no further line answered.
+// Reads the program's input to its end.
 pub fn run<R: Read, W: Write>(input: &mut R, output: &mut W) -> io::Result<()> {
-    let mut image = [0u8; Image::LEN];
-    let last = take_turns(input, output, &mut image)?;
-    end(output, last.line, &mut image)
+    run_session(Commands, &mut [0u8; PART], &mut [0u8; TEXT], input, output)
 }

@@ -7,12 +7,13 @@ ghost use Rattle.console.specs.Step.{answer_text, max_answer, raised_once, ran, 
 
 use crate::judge::{show_last, show_prove};
 use forms::bytes::put;
+use forms::nonce;
 use forms::nonce::Nonce;
+use forms::refusal::Refusal;
 use forms::request::Request;
 use forms::terms::CounterId;
-use forms::{nonce, refusal};
 use grammar::command::Command;
-use host::answer::Figures;
+use host::answer::{Figures, ReadFigures};
 use host::confirm::confirm;
 use host::increment::increment;
 use host::open::open;
@@ -30,7 +31,7 @@ const SIGNED: [u8; 1] = [1];
 fn show_read(image: &[u8], id: CounterId) -> Figures
     ensures { result ≡ read_figures (read_call image.now id) }
 {
-    let shown = read(image, id);
+    let shown = ReadFigures::from(read(image, id));
     Figures {
         number: shown.number,
         value: shown.value,
@@ -47,18 +48,16 @@ pub fn raise_once(image: &mut [u8], nonce: Nonce, id: CounterId, before: u32) ->
 {
     let mut requests = [0u8; Request::LEN];
     Request::new(nonce, id, before).write(&mut requests, 0);
-    let verdicts = SIGNED;
-    let shown = increment(image, &requests, &verdicts);
-    let numbers = shown.numbers;
-    if shown.number != refusal::NONE {
-        return Figures {
-            number: shown.number,
-            value: shown.value,
-        };
-    }
-    Figures {
-        number: numbers[0],
-        value: shown.value,
+    let shown = increment(image, &requests, &SIGNED);
+    match shown {
+        Ok(batch) => Figures {
+            number: batch.numbers[0],
+            value: batch.clock,
+        },
+        Err(refusal) => Figures {
+            number: refusal.number(),
+            value: 0,
+        },
     }
 }
 
@@ -70,18 +69,18 @@ pub fn step(image: &mut [u8], command: Command) -> Figures
     ensures image_after { image.new ≡ (ran image.old command).image }
 {
     match command {
-        Command::Start(clock) => start(image, clock),
-        Command::Open(confirmation) => open(image, confirmation, YES),
-        Command::Tick(byte) => tick(image, &[byte; nonce::LEN]),
+        Command::Start(clock) => start(image, clock).into(),
+        Command::Open(confirmation) => open(image, confirmation, YES).into(),
+        Command::Tick(byte) => tick(image, &[byte; nonce::LEN]).into(),
         Command::Increment(byte, id, before) => {
             raise_once(image, [byte; nonce::LEN], id, before)
         }
         Command::Read(id) => show_read(image, id),
         Command::Prove(byte, id) => show_prove(image, byte, id),
         Command::Last(id, t) => show_last(image, id, t),
-        Command::Confirm(confirmation) => confirm(image, confirmation, YES),
+        Command::Confirm(confirmation) => confirm(image, confirmation, YES).into(),
         Command::Other => Figures {
-            number: refusal::UNKNOWN_LINE,
+            number: Refusal::UnknownLine.number(),
             value: 0,
         },
     }

@@ -8,45 +8,18 @@
 // - month: thirty days of sixty-four boxes.
 #![tactic(auto)]
 
-use std::env::FillError;
-use std::rt::{Env, Files};
-use std::{fs, io, str};
+use input::named::{Program, run_named};
+use std::io;
+use std::io::{Read, Write};
 
-// Room for the name of an input.
-const NAME: usize = 4096;
+struct Counter;
 
-const CLOSED: &[u8] = b"can't be opened\n";
-
-// Runs the program on the input of a name. A file's name is text: one that is not can't be opened.
-fn take_input(rt: &(impl Files + Print), name: &[u8]) -> io::Result<()> {
-    rt.write_all(name)?;
-    rt.write_all(b"\n")?;
-    let Ok(path) = str::from_utf8(name) else {
-        return rt.write_all(CLOSED);
-    };
-    match fs::open(rt, path) {
-        Ok(mut input) => console::run::run(&mut input, &mut io::writer(rt)),
-        Err(_) => rt.write_all(CLOSED),
+impl Program for Counter {
+    fn run<R: Read, W: Write>(&self, input: &mut R, output: &mut W) -> io::Result<()> {
+        console::run::run(input, output)
     }
-}
-
-// Takes the input that the argument at a place names, and answers whether there is one. One that is longer than the buffer is an empty name, which no
-// file has.
-fn take_argument(rt: &(impl Env + Files + Print), place: usize) -> io::Result<bool> {
-    let mut name = [0u8; NAME];
-    match rt.arg(place, &mut name) {
-        Ok(len) => take_input(rt, &name[..len])?,
-        Err(FillError::TooLong) => take_input(rt, b"")?,
-        Err(FillError::NotPresent) => return Ok(false),
-    }
-    Ok(true)
 }
 
 fn main(rt: HostRuntime) -> io::Result<()> {
-    for place in 1..usize::MAX {
-        if !take_argument(&rt, place)? {
-            break;
-        }
-    }
-    Ok(())
+    run_named(&rt, &Counter)
 }

@@ -1,113 +1,17 @@
-// What the depot knows of each counter, on a card for each place in the books: the reading of its opening, what its tablet holds, a slip, the
-// value that it was closed with, whether its box is the second one at the place, and the proofs that were written for it.
-ghost use Rattle.std.specs.Prelude.{◌≤◌};
-
-use crate::module;
+// What the depot knows of each counter, on a card for each place.
 use crate::plan::{COUNTERS, id_of, scrapped};
-use forms::number::{get_u32, put_u32};
 use forms::terms::{CounterId, GlobalClock};
 
-const CARD: usize = 36;
-
-const FIRST: usize = module::END;
-
-pub(crate) const END: usize = FIRST + CARD * (COUNTERS as usize);
-
-const OPENED: usize = 0;
-
-const TABLET: usize = 4;
-
-const SLIP: usize = 12;
-
-const CLOSED: usize = 24;
-
-const SECOND: usize = 28;
-
-const PROOFS: usize = 32;
-
-// Where a counter's card begins: at most where the last one does.
-fn card(place: u32) -> usize
-    ensures { result ≤ 936160 }
-{
-    FIRST + CARD * ((place % COUNTERS) as usize)
-}
-
-// 0 where the counter is not opened.
-pub(crate) fn opened(books: &[u8], place: u32) -> GlobalClock {
-    GlobalClock(get_u32(books, card(place) + OPENED))
-}
-
-// Proofs are counted from the opening on.
-pub(crate) fn put_opened(books: &mut [u8], place: u32, reading: GlobalClock) {
-    put_u32(books, card(place) + OPENED, reading.0);
-    put_u32(books, card(place) + PROOFS, 0);
-}
-
-// 0 where the counter is not closed.
-pub(crate) fn closed(books: &[u8], place: u32) -> u32 {
-    get_u32(books, card(place) + CLOSED)
-}
-
-pub(crate) fn put_closed(books: &mut [u8], place: u32, value: u32) {
-    put_u32(books, card(place) + CLOSED, value);
-}
-
-// Whether the counter is opened and not closed.
-pub(crate) fn is_held(books: &[u8], place: u32) -> bool {
-    opened(books, place).0 != 0 && closed(books, place) == 0
-}
-
-// How many proofs were written for the counter since its opening, by what the host answered to the calls for it.
-pub(crate) fn proofs(books: &[u8], place: u32) -> u32 {
-    get_u32(books, card(place) + PROOFS)
-}
-
-pub(crate) fn add_proof(books: &mut [u8], place: u32) {
-    let before = proofs(books, place);
-    if before < u32::MAX {
-        put_u32(books, card(place) + PROOFS, before + 1);
-    }
-}
-
-// Whether the place's first box was scrapped and another one came in its place.
-pub(crate) fn is_second(books: &[u8], place: u32) -> bool {
-    get_u32(books, card(place) + SECOND) != 0
-}
-
-// The id of the box that is at the place.
-pub(crate) fn id(books: &[u8], place: u32) -> CounterId {
-    id_of(place, is_second(books, place))
-}
-
-// Whether the box that is at the place is scrapped.
-pub(crate) fn is_scrapped(books: &[u8], place: u32, day: u32) -> bool {
-    scrapped(place, day) && !is_second(books, place)
-}
+const PLACES: usize = COUNTERS as usize;
 
 // The value that a tablet took along, and the day on which it did.
-#[derive(Clone, Copy)]
+#[derive(Clone, Copy, Default)]
 pub struct Tablet {
     pub value: u32,
     pub day: u32,
 }
 
-impl Tablet {
-    pub(crate) fn read(books: &[u8], place: u32) -> Self {
-        let at = card(place) + TABLET;
-        Tablet {
-            value: get_u32(books, at),
-            day: get_u32(books, at + 4),
-        }
-    }
-
-    pub(crate) fn write(self, books: &mut [u8], place: u32) {
-        let at = card(place) + TABLET;
-        put_u32(books, at, self.value);
-        put_u32(books, at + 4, self.day);
-    }
-}
-
-// What an owner signed: the value and closing reading of a proof that the desk accepted, and the day; day 0: nothing is signed.
+// What an owner signed: the value and closing reading of a proof that the desk accepted, and the day.
 #[derive(Clone, Copy)]
 pub struct Slip {
     pub value: u32,
@@ -115,37 +19,78 @@ pub struct Slip {
     pub day: u32,
 }
 
-impl Slip {
-    pub(crate) fn none() -> Self {
-        Slip {
-            value: 0,
-            reading: GlobalClock(0),
-            day: 0,
+#[derive(Clone, Copy)]
+pub struct Card {
+    // Whether the place's first box was scrapped and another one came in its place.
+    pub second: bool,
+    // The reading at which the counter was opened, and the value that it was closed with.
+    pub opened: Option<GlobalClock>,
+    pub closed: Option<u32>,
+    pub tablet: Tablet,
+    // The slip that waits.
+    pub slip: Option<Slip>,
+    // How many proofs were written for the counter since its opening, by what the host answered to the calls for it.
+    pub proofs: u32,
+}
+
+impl Card {
+    fn new(second: bool, tablet: Tablet) -> Self {
+        Card {
+            second,
+            opened: None,
+            closed: None,
+            tablet,
+            slip: None,
+            proofs: 0,
         }
     }
 
-    pub(crate) fn read(books: &[u8], place: u32) -> Self {
-        let at = card(place) + SLIP;
-        Slip {
-            value: get_u32(books, at),
-            reading: GlobalClock(get_u32(books, at + 4)),
-            day: get_u32(books, at + 8),
-        }
+    // Proofs are counted from the opening on.
+    pub(crate) fn open(&mut self, reading: GlobalClock, day: u32) {
+        let value = reading.0;
+        self.opened = Some(reading);
+        self.tablet = Tablet { value, day };
+        self.proofs = 0;
     }
 
-    pub(crate) fn write(self, books: &mut [u8], place: u32) {
-        let at = card(place) + SLIP;
-        put_u32(books, at, self.value);
-        put_u32(books, at + 4, self.reading.0);
-        put_u32(books, at + 8, self.day);
+    pub(crate) fn add_proof(&mut self) {
+        self.proofs = self.proofs.saturating_add(1);
+    }
+
+    pub(crate) fn is_held(&self) -> bool {
+        self.opened.is_some() && self.closed.is_none()
+    }
+
+    // The card begins anew for a second box. A slip that was signed for the first one says nothing of it, and goes.
+    pub(crate) fn begin_second(&mut self) {
+        *self = Card::new(true, self.tablet);
     }
 }
 
-// The card begins anew for a second box. A slip that was signed for the first one says nothing of it, and goes.
-pub(crate) fn begin_second(books: &mut [u8], place: u32) {
-    put_opened(books, place, GlobalClock(0));
-    put_closed(books, place, 0);
-    put_u32(books, card(place) + SECOND, 1);
-    let none = Slip::none();
-    none.write(books, place);
+#[derive(Clone, Copy)]
+pub struct Cards([Card; PLACES]);
+
+impl Cards {
+    // Of counters that are not opened.
+    pub(crate) fn new() -> Self {
+        Cards([Card::new(false, Tablet::default()); PLACES])
+    }
+
+    pub(crate) fn at(&self, place: u32) -> &Card {
+        &self.0[place as usize % PLACES]
+    }
+
+    pub(crate) fn at_mut(&mut self, place: u32) -> &mut Card {
+        &mut self.0[place as usize % PLACES]
+    }
+
+    // The id of the box that is at the place.
+    pub(crate) fn id(&self, place: u32) -> CounterId {
+        id_of(place, self.at(place).second)
+    }
+
+    // Whether the box that is at the place is scrapped.
+    pub(crate) fn is_scrapped(&self, place: u32, day: u32) -> bool {
+        scrapped(place, day) && !self.at(place).second
+    }
 }

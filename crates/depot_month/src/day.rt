@@ -1,120 +1,140 @@
 // A day at the depot: the morning's round past all counters, then calls as they are drawn.
-use crate::owner::{hand_in, handed_over, opened, raise_shown, visited};
+use crate::depot::Depot;
 use crate::plan::{COUNTERS, STEPS, drawn, tablet_away};
-use crate::prove::asked_without_room;
-use crate::raise::{dock_raises, minute, ticked};
-use crate::retire::{retired, settled};
-use crate::{cards, module, tally};
 use forms::terms::GlobalClock;
+
+// What a step does.
+#[derive(Clone, Copy)]
+pub enum Act {
+    Tick,
+    DockRaise,
+    TabletRaise,
+    DoubtfulRaise,
+    Handover,
+    // The last raise is shown, or the one before it.
+    LastRaise,
+    EarlierRaise,
+    HandIn,
+    Opening,
+}
+
+impl Act {
+    // What each sixteenth of the numbers drawn stands for.
+    fn of(x: u64) -> Self {
+        match x / 64 % 16 {
+            0 => Act::Tick,
+            1..=4 => Act::DockRaise,
+            5..=8 => Act::TabletRaise,
+            9 => Act::DoubtfulRaise,
+            10 | 11 => Act::Handover,
+            12 => Act::LastRaise,
+            13 => Act::EarlierRaise,
+            14 => Act::HandIn,
+            _ => Act::Opening,
+        }
+    }
+}
 
 // What is drawn for a step: a counter's place, what is done, and a number for what else there is to decide.
 #[derive(Clone, Copy)]
 pub struct Step {
-    pub place: u32,
-    pub what: u32,
-    pub rest: u32,
+    place: u32,
+    act: Act,
+    rest: u32,
 }
 
 impl Step {
     fn of(x: u64) -> Self {
         Step {
             place: (x % 64) as u32,
-            what: (x / 64 % 16) as u32,
+            act: Act::of(x),
             rest: (x / 1024 % 4294967296) as u32,
         }
     }
 }
 
-// In the morning a scrapped box is closed or replaced, and any other confirmed.
-fn called_on(place: u32, day: u32, image: &mut [u8], books: &mut [u8]) {
-    if cards::is_scrapped(books, place, day) {
-        settled(place, day, image, books);
-    } else {
-        visited(place, day, image, books);
+impl Depot {
+    // In the morning a scrapped box is closed or replaced, and any other confirmed.
+    fn called_on(&mut self, place: u32) {
+        if self.cards.is_scrapped(place, self.day) {
+            self.seen_off(place);
+        } else {
+            self.visited(place);
+        }
     }
-}
 
-fn round(day: u32, image: &mut [u8], books: &mut [u8]) {
-    let mut place: u32 = 0;
-    while place < COUNTERS {
-        called_on(place, day, image, books);
-        place += 1;
+    fn round(&mut self) {
+        for place in 0..COUNTERS {
+            self.called_on(place);
+        }
     }
-}
 
-// On the first days the next counter is opened, at a reading of just now; with 64 opened it is a sixty-fifth. Later one time in sixteen a counter
-// that is opened already; the other times are for the boxes that are scrapped, which are at the odd places.
-fn opening(step: Step, day: u32, image: &mut [u8], books: &mut [u8]) {
-    let now = module::clock(books).0;
-    let reading = GlobalClock(std::num::wrapping_sub_u32(now, step.rest % 3));
-    if day <= 5 {
-        let next = tally::count(books, tally::OPENINGS);
-        opened(next, reading, day, image, books);
-        return;
+    // On the first days the next counter is opened, at a reading of just now; with 64 opened it is a sixty-fifth. Later one time in sixteen a
+    // counter that is opened already; the other times are for the boxes that are scrapped, which are at the odd places.
+    fn opening(&mut self, step: Step) {
+        let now = self.module.clock().0;
+        let reading = GlobalClock(now.wrapping_sub(step.rest % 3));
+        if self.day <= 5 {
+            let next = self.tally.openings.0;
+            self.opened(next, reading);
+            return;
+        }
+        if step.rest % 16 == 0 && self.cards.at(step.place).closed.is_none() {
+            self.opened(step.place, reading);
+            return;
+        }
+        let place = 2 * (step.place % 32) + 1;
+        self.retired(place, step.rest / 16 % 4);
     }
-    if step.rest % 16 == 0 && cards::closed(books, step.place) == 0 {
-        opened(step.place, reading, day, image, books);
-        return;
+
+    // A raise by the counter's tablet, or by a dock where that is away; other tablets, up to seven, and one time in four the dock come in the same
+    // minute.
+    fn tablet_raises(&mut self, step: Step) {
+        if tablet_away(step.place, self.day) {
+            self.dock_raises(step.place, 1);
+        } else {
+            let tablets = 1 + step.rest % 8;
+            let dock = step.rest / 8 % 4 == 0;
+            self.minute(step.place, tablets, dock);
+        }
     }
-    let place = 2 * (step.place % 32) + 1;
-    retired(place, step.rest / 16 % 4, day, image, books);
-}
 
-// A raise by a dock, or by the counter's tablet where that is not away; other tablets, up to seven, and one time in four the dock come in the
-// same minute.
-fn raised(step: Step, day: u32, image: &mut [u8], books: &mut [u8]) {
-    let place = step.place;
-    if step.what < 5 || tablet_away(place, day) {
-        dock_raises(place, 1, image, books);
-    } else {
-        let tablets = 1 + step.rest % 8;
-        let dock = step.rest / 8 % 4 == 0;
-        minute(place, tablets, dock, day, image, books);
+    // One request in four of these is not signed.
+    fn doubtful_raise(&mut self, step: Step) {
+        let verdict = u8::from(step.rest % 4 != 0);
+        self.dock_raises(step.place, verdict);
     }
-}
 
-// One request in four of these is not signed.
-fn doubtful_raise(step: Step, image: &mut [u8], books: &mut [u8]) {
-    let verdict = if step.rest % 4 == 0 { 0 } else { 1 };
-    dock_raises(step.place, verdict, image, books);
-}
-
-// One time in eight the proof for a handover is asked for with too little room first.
-fn cramped(step: Step, image: &mut [u8], books: &mut [u8]) {
-    if step.rest / 2 % 8 == 0 {
-        asked_without_room(step.place, image, books);
+    // One time in eight the proof for a handover is asked for with too little room first.
+    fn handover(&mut self, step: Step) {
+        if step.rest / 2 % 8 == 0 {
+            self.asked_without_room(step.place);
+        }
+        self.handed_over(step.place, step.rest % 2 == 0);
     }
-}
 
-fn handover(step: Step, day: u32, image: &mut [u8], books: &mut [u8]) {
-    cramped(step, image, books);
-    handed_over(step.place, step.rest % 2 == 0, day, image, books);
-}
-
-// What each sixteenth of the numbers drawn stands for.
-fn carry_out(step: Step, day: u32, image: &mut [u8], books: &mut [u8]) {
-    let place = step.place;
-    let what = step.what;
-    match what {
-        0 => ticked(image, books),
-        1..=8 => raised(step, day, image, books),
-        9 => doubtful_raise(step, image, books),
-        10 | 11 => handover(step, day, image, books),
-        12 | 13 => raise_shown(place, what == 13, day, image, books),
-        14 => hand_in(place, day, image, books),
-        _ => opening(step, day, image, books),
+    fn carry_out(&mut self, step: Step) {
+        match step.act {
+            Act::Tick => self.ticked(),
+            Act::DockRaise => {
+                self.dock_raises(step.place, 1);
+            }
+            Act::TabletRaise => self.tablet_raises(step),
+            Act::DoubtfulRaise => self.doubtful_raise(step),
+            Act::Handover => self.handover(step),
+            Act::LastRaise => self.raise_shown(step.place, false),
+            Act::EarlierRaise => self.raise_shown(step.place, true),
+            Act::HandIn => self.hand_in(step.place),
+            Act::Opening => self.opening(step),
+        }
     }
-}
 
-// Answers the number drawn last.
-pub(crate) fn run(day: u32, before: u64, image: &mut [u8], books: &mut [u8]) -> u64 {
-    round(day, image, books);
-    let mut x = before;
-    let mut left = STEPS;
-    while 0 < left {
-        x = drawn(x);
-        carry_out(Step::of(x), day, image, books);
-        left -= 1;
+    pub(crate) fn spend(&mut self, day: u32) {
+        self.day = day;
+        self.round();
+        for _ in 0..STEPS {
+            self.drawn = drawn(self.drawn);
+            self.carry_out(Step::of(self.drawn));
+        }
     }
-    x
 }

@@ -44,10 +44,10 @@ pub(crate) fn owner_away(place: u32, day: u32) -> bool {
     if (place % 5 + day % 5) % 5 == 0 {
         return true;
     }
-    if place == 5 && 8 <= day && day <= 13 {
+    if place == 5 && (8..=13).contains(&day) {
         return true;
     }
-    19 <= day && day <= 22
+    (19..=22).contains(&day)
 }
 
 // The first boxes at the odd places are scrapped, two each day from day 9 on.

@@ -1,8 +1,6 @@
 // A case is written as a proof, given to the desk, and its answer printed.
-ghost use Rattle.std.specs.Prelude.{◌≤◌};
-
-use crate::case::{Case, FIGURES, NOT_GIVEN};
-use crate::log::put_log;
+use crate::case::Case;
+use crate::log::Log;
 use desk_table::answer::Figures;
 use forms::bytes::put;
 use forms::certificate::Certificate;
@@ -10,7 +8,6 @@ use forms::confirmation::Confirmation;
 use forms::entry::Head;
 use forms::nonce::LEN;
 use forms::number::{put_u16, put_u32};
-use forms::terms::{CounterId, GlobalClock};
 use std::io;
 use text::line::{put_filled, put_words};
 use text::part::front;
@@ -34,21 +31,7 @@ const LINE_ROOM: usize = 256;
 // Where the places of the wanted nonce begin, behind all of a proof.
 const WANTED: usize = 65536;
 
-// A verdict from its digit.
-fn verdict(digit: u8) -> u8 {
-    if b'0' < digit { digit - b'0' } else { 0 }
-}
-
-// Stores the verdicts that the digits stand for.
-fn put_verdicts(digits: &[u8], verdicts: &mut [u8]) {
-    let mut i: usize = 0;
-    while i < digits.len() {
-        let byte = [verdict(digits[i])];
-        put(verdicts, i, &byte);
-        i += 1;
-    }
-}
-
+// A label that does not fit is left out, as `println!` would not do.
 fn print(rt: &impl Print, label: &[u8], shown: Figures) -> io::Result<()> {
     let mut line = [0u8; LINE_ROOM];
     let figures = [
@@ -64,40 +47,30 @@ fn print(rt: &impl Print, label: &[u8], shown: Figures) -> io::Result<()> {
 }
 
 // Where the clock certificate and the log stand, by the kind.
-
-fn certificate_offset(kind: u32) -> u32 {
-    if kind == 1 { 36 } else { 0 }
-}
-
-fn log_offset(kind: u32) -> u32
-    ensures { result ≤ 60 }
-{
-    if kind == 1 { 60 } else { 36 }
+fn offsets(kind: u32) -> (u32, u32) {
+    if kind == 1 { (36, 60) } else { (0, 36) }
 }
 
 // Stores the header, whatever its figures are.
 fn put_header(case: Case, len: usize, proof: &mut [u8]) {
+    let (certificate, log) = offsets(case.kind);
     put_u16(proof, 0, Proof::FORM);
     put_u16(proof, 2, case.kind);
-    put_u32(proof, 4, (len % WANTED) as u32);
+    put_u32(proof, 4, u32::try_from(len).unwrap_or(u32::MAX));
     put_u32(proof, 8, Proof::CONFIRMATION as u32);
-    put_u32(proof, 12, certificate_offset(case.kind));
-    put_u32(proof, 16, log_offset(case.kind));
+    put_u32(proof, 12, certificate);
+    put_u32(proof, 16, log);
     put_u32(proof, 20, case.count);
 }
 
 // Stores the proof, and answers its length. In kind 2 the entries stand where the certificate is in kind 1.
 fn put_proof(case: Case, entries: &[u8], proof: &mut [u8]) -> usize {
-    let log = log_offset(case.kind) as usize;
-    let confirmation = Confirmation::new(
-        CounterId(case.confirmed),
-        case.value,
-        GlobalClock(case.reading),
-    );
+    let (_, log) = offsets(case.kind);
+    let log = log as usize;
     let len = log + entries.len();
     put_header(case, len, proof);
-    confirmation.write(proof, Proof::CONFIRMATION);
-    Certificate::new(GlobalClock(case.certificate), [5u8; LEN]).write(
+    case.confirmation.write(proof, Proof::CONFIRMATION);
+    Certificate::new(case.certificate, [5u8; LEN]).write(
         proof,
         Proof::CONFIRMATION + Confirmation::LEN,
     );
@@ -105,70 +78,57 @@ fn put_proof(case: Case, entries: &[u8], proof: &mut [u8]) -> usize {
     len
 }
 
-// Changes four bytes of the proof, or of the wanted nonce.
-fn change(place: u32, number: u32, proof: &mut [u8], wanted: &mut [u8]) {
-    let at = place as usize;
-    if at < WANTED {
-        put_u32(proof, at, number);
-    } else {
-        put_u32(wanted, at - WANTED, number);
+// Each of the changes is of four bytes of the proof, or of the wanted nonce.
+fn change_all(changes: &[u32], proof: &mut [u8], wanted: &mut [u8]) {
+    let (changes, _) = changes.as_chunks::<2>();
+    for change in changes {
+        let [place, number] = *change;
+        let at = place as usize;
+        if at < WANTED {
+            put_u32(proof, at, number);
+        } else {
+            put_u32(wanted, at - WANTED, number);
+        }
     }
 }
 
-// Each of the changes is a place and a number, behind the figures of the case.
-fn change_all(figures: &[u32], proof: &mut [u8], wanted: &mut [u8]) {
-    let mut i = FIGURES;
-    while i + 1 < figures.len() {
-        change(figures[i], figures[i + 1], proof, wanted);
-        i += 2;
-    }
-}
-
-fn lent_of(case: Case, len: usize) -> usize {
-    if case.lent == NOT_GIVEN {
-        len
-    } else {
-        case.lent as usize
-    }
-}
-
-// The desk's answer to the case with entries, the changes behind its figures and verdicts.
+// The desk's answer to the case with entries and verdicts.
 pub(crate) fn judged(
     rt: &impl Print,
     label: &[u8],
     case: Case,
     entries: &[u8],
-    figures: &[u32],
     verdicts: &[u8],
 ) -> io::Result<()> {
     let mut proof = [0u8; PROOF_ROOM];
-    let mut nonce = [(case.nonce % 256) as u8; NONCE_ROOM];
+    let mut nonce = [case.nonce; NONCE_ROOM];
     let len = put_proof(case, entries, &mut proof);
-    change_all(figures, &mut proof, &mut nonce);
-    let lent = front(&proof, lent_of(case, len));
-    let wanted = front(&nonce, case.nonce_len as usize);
+    change_all(case.changes, &mut proof, &mut nonce);
+    let lent = front(&proof, case.lent.unwrap_or(len));
+    let wanted = front(&nonce, case.nonce_len);
     print(rt, label, vmc_desk_verify(lent, verdicts, case.id, wanted))
 }
 
 // The same with the figures of a log and the digits of verdicts.
-pub(crate) fn case(
+pub(crate) fn answer(
     rt: &impl Print,
     label: &[u8],
     case: Case,
-    log: &[u32],
     figures: &[u32],
     digits: &[u8],
 ) -> io::Result<()> {
     let mut entries = [0u8; ENTRIES_ROOM];
+    let mut log = Log::new(&mut entries);
+    log.put_all(figures);
     let mut verdicts = [0u8; VERDICTS_ROOM];
-    let len = put_log(&mut entries, log);
-    put_verdicts(digits, &mut verdicts);
+    for (verdict, digit) in verdicts.iter_mut().zip(digits) {
+        *verdict = digit.saturating_sub(b'0');
+    }
     judged(
         rt,
         label,
         case,
-        front(&entries, len),
-        figures,
+        log.sealed(),
         front(&verdicts, digits.len()),
     )
 }

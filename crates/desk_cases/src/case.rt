@@ -1,50 +1,59 @@
-// A case at the desk but for its log, its verdicts and what is then changed of it: what is written, and what is wanted.
+// A case at the desk but for its log and its verdicts: what is written, what is then changed of it, and what is wanted.
+use forms::confirmation::Confirmation;
+use forms::terms::{CounterId, GlobalClock};
 
-// A figure that is not given. As a number of bytes lent it stands for all.
+// The figures before those of the changes, and room for all.
+const FIGURES: usize = 10;
+
+pub const ROOM: usize = 80;
+
+// Stands for a figure that is not given. As a number of bytes lent it stands for all.
 pub const NOT_GIVEN: u32 = 65536;
 
-pub const FIGURES: usize = 10;
-
 #[derive(Clone, Copy)]
-pub struct Case {
+pub struct Case<'a> {
     pub kind: u32,
-    // The confirmation's counter, value and reading.
-    pub confirmed: u32,
-    pub value: u32,
-    pub reading: u32,
+    pub confirmation: Confirmation,
     // The clock certificate's reading.
-    pub certificate: u32,
+    pub certificate: GlobalClock,
     // The wanted counter, and the wanted nonce: a byte, and how often it stands there.
     pub id: u32,
-    pub nonce: u32,
-    pub nonce_len: u32,
+    pub nonce: u8,
+    pub nonce_len: usize,
     // How many entries the header counts.
     pub count: u32,
-    // How many bytes are lent.
-    pub lent: u32,
+    // How many bytes are lent, where not all are.
+    pub lent: Option<usize>,
+    // The place and the number of each change.
+    pub changes: &'a [u32],
 }
 
-fn figure(figures: &[u32], i: usize) -> u32 {
-    if i < figures.len() {
-        figures[i]
-    } else {
-        NOT_GIVEN
-    }
-}
-
-impl Case {
-    pub(crate) fn of(figures: &[u32]) -> Self {
+impl<'a> Case<'a> {
+    // The case of so many figures. Those of the changes stand behind the others.
+    pub(crate) fn new(figures: &'a [u32; ROOM], given: usize) -> Self {
+        let [
+            kind,
+            confirmed,
+            value,
+            reading,
+            certificate,
+            id,
+            nonce,
+            nonce_len,
+            count,
+            lent,
+            ..
+        ] = *figures;
         Case {
-            kind: figure(figures, 0),
-            confirmed: figure(figures, 1),
-            value: figure(figures, 2),
-            reading: figure(figures, 3),
-            certificate: figure(figures, 4),
-            id: figure(figures, 5),
-            nonce: figure(figures, 6),
-            nonce_len: figure(figures, 7),
-            count: figure(figures, 8),
-            lent: figure(figures, 9),
+            kind,
+            confirmation: Confirmation::new(CounterId(confirmed), value, GlobalClock(reading)),
+            certificate: GlobalClock(certificate),
+            id,
+            nonce: (nonce % 256) as u8,
+            nonce_len: nonce_len as usize,
+            count,
+            lent: (lent != NOT_GIVEN).then_some(lent as usize),
+            changes: figures.get(FIGURES..given.min(ROOM)).unwrap_or(&[]),
         }
     }
 }

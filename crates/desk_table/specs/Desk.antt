@@ -19,7 +19,7 @@ use Rattle.digest.specs.Seal.{is_sealed}
 use Rattle.validity.specs.declared.proof.Kind.{Kind}
 use Rattle.validity.specs.declared.proof.Proof.{Proof}
 use Rattle.validity.specs.Proof.{Fields, fields_len, shape_of, known_form, shape_at, miscounted, overcounted, proof_laid_out, confirmation_offset, certificate_offset, log_offset}
-use Rattle.desk_table.specs.Answer.{Answer}
+use Rattle.desk_table.specs.Answer.{Answer, shows, refuses}
 use Rattle.desk_table.specs.Lowest.{lowest}
 
 -- ---- the parts of a proof
@@ -171,7 +171,7 @@ closing p s = by_kind p.kind (certificate s).reading (entry s (log_offset p.kind
 
 -- a check over every entry, lowest entry first, with its place
 abbrev pub lowest_entry : ℕ → ℕ → Row Answer
-lowest_entry number place = not (eqb place 0) gives Answer.Refused number place
+lowest_entry number place = not (eqb place 0) gives refuses number place
 
 -- checks 6 to 9, 30, 31, 10, 11 and 13, of bytes that read as a proof
 abbrev pub later_checks : Proof → List ℕ → List ℕ → CounterId → List ℕ → List (Row Answer)
@@ -179,23 +179,23 @@ later_checks p s verdicts id nonce =
     let n : ℕ = p.count in
     let log : ℕ = log_offset p.kind in
     let before : ℕ = verdicts_before p.kind in
-    (bad_verdicts p s verdicts gives Answer.Refused 6 0)
-    ∷ (bad_confirmation (confirmation s) id gives Answer.Refused 7 0)
-    ∷ (is_no (get_or verdicts 0 0) gives Answer.Refused 8 0)
-    ∷ (certificate_denied p.kind verdicts gives Answer.Refused 9 0)
+    (bad_verdicts p s verdicts gives refuses 6 0)
+    ∷ (bad_confirmation (confirmation s) id gives refuses 7 0)
+    ∷ (is_no (get_or verdicts 0 0) gives refuses 8 0)
+    ∷ (certificate_denied p.kind verdicts gives refuses 9 0)
     ∷ lowest_entry 9 (lowest (module_denied s log verdicts before) n)
     ∷ lowest_entry 30 (lowest (forged s log) n)
     ∷ lowest_entry 31 (lowest (repeated s log) n)
-    ∷ (closes_elsewhere p s verdicts id nonce gives Answer.Refused 10 0)
+    ∷ (closes_elsewhere p s verdicts id nonce gives refuses 10 0)
     ∷ lowest_entry 11 (lowest (wrong_reading s log (confirmation s).reading) n)
-    ∷ (wrong_closing p s gives Answer.Refused 11 (n + 1))
+    ∷ (wrong_closing p s gives refuses 11 (n + 1))
     ∷ lowest_entry 13 (lowest (breaks_chain s log verdicts before id (confirmation s).value) n)
     ∷ []
 
 -- "The final running value is the answer; place is 0", and with it the count of the wanted counter's own entries
 abbrev pub accepted : Proof → List ℕ → List ℕ → CounterId → Answer
 accepted p s verdicts id =
-    Answer.Accepted (running_to s (log_offset p.kind) verdicts (verdicts_before p.kind) id (confirmation s).value p.count) (closing p s)
+    shows (running_to s (log_offset p.kind) verdicts (verdicts_before p.kind) id (confirmation s).value p.count) (closing p s)
 
 -- the answer to bytes that read as a proof
 unfoldable pub judged : Proof → List ℕ → List ℕ → CounterId → List ℕ → Answer
@@ -205,11 +205,11 @@ judged p s verdicts id nonce = first_answer (later_checks p s verdicts id nonce)
 unfoldable pub verified : List ℕ → List ℕ → CounterId → List ℕ → Answer
 verified s verdicts id nonce =
     first_answer
-    ((bad_wanted id nonce gives Answer.Refused 1 0)
-    ∷ (ltb (length s) proof_header_len gives Answer.Refused 2 0)
-    ∷ (not (known_form s) gives Answer.Refused 3 0)
-    ∷ (miscounted (shape_at s) gives Answer.Refused 4 0)
-    ∷ (overcounted s (log_offset (shape_at s).kind) (shape_at s).count gives Answer.Refused 4 0)
-    ∷ (not (proof_laid_out s (shape_at s)) gives Answer.Refused 5 0)
+    ((bad_wanted id nonce gives refuses 1 0)
+    ∷ (ltb (length s) proof_header_len gives refuses 2 0)
+    ∷ (not (known_form s) gives refuses 3 0)
+    ∷ (miscounted (shape_at s) gives refuses 4 0)
+    ∷ (overcounted s (log_offset (shape_at s).kind) (shape_at s).count gives refuses 4 0)
+    ∷ (not (proof_laid_out s (shape_at s)) gives refuses 5 0)
     ∷ later_checks (shape_at s) s verdicts id nonce)
     (accepted (shape_at s) s verdicts id)

@@ -1,18 +1,29 @@
 // What the desk answers, and the five figures for it.
 ghost use Rattle.std.specs.Prelude.{◌≡◌};
-ghost use Rattle.desk_table.specs.Answer.{figures};
+ghost use Rattle.validity.specs.Proof.{refusal_of};
+ghost use Rattle.desk_table.specs.Answer.{figures, told};
 
-use forms::refusal;
+use forms::refusal::Refusal;
 use forms::running::Running;
 use forms::terms::GlobalClock;
+use validity::proof::ParseError;
 
+// What an accepted proof shows: the counter's value at the reading that it closes on, and how often it was raised since the proof's own confirmation.
 #[derive(Clone, Copy)]
-pub enum Answer {
-    // The counter's value at the reading that the proof closes on, and how often it was raised since the proof's own confirmation.
-    Accepted(Running, GlobalClock),
-    // The number of the check that refuses, and the place of the entry that it refuses, 0 where it is none.
-    Refused(u32, u32),
+pub struct Accepted {
+    pub running: Running,
+    pub closing: GlobalClock,
 }
+
+// The check that turns a proof away, and the place of the entry that it refuses, 0 where it is none: document 01's figure for it, so that an answer is
+// fixed by what it is told as.
+#[derive(Clone, Copy)]
+pub struct Refused {
+    pub refusal: Refusal,
+    pub place: u32,
+}
+
+pub type Answer = Result<Accepted, Refused>;
 
 // Document 01's number, value, closing reading and place, and document 02's openings.
 #[repr(C)]
@@ -25,27 +36,44 @@ pub struct Figures {
     pub openings: u32,
 }
 
-impl Answer {
-    // The five figures of an answer: of an accepted proof number and place are 0; of a refused one value, closing reading and openings are, so that
-    // nothing in them passes for a value.
-    //
-    // Ruled out, among others: the same value whatever the entries; a refusal that shows openings.
-    pub fn figures(self) -> Figures
-        ensures { result ≡ figures self }
-    {
-        match self {
-            Answer::Accepted(running, closing) => Figures {
-                number: refusal::NONE,
-                value: running.value,
-                closing: closing.0,
+// A refusal that is no entry's.
+impl From<Refusal> for Refused {
+    ghost from_gives = { λ refusal refused. refused ≡ record { refusal = refusal; place = 0 } };
+
+    fn from(refusal: Refusal) -> Refused {
+        Refused { refusal, place: 0 }
+    }
+}
+
+impl From<ParseError> for Refused {
+    ghost from_gives = { λ error refused. refused ≡ record { refusal = refusal_of error; place = 0 } };
+
+    fn from(error: ParseError) -> Refused {
+        Refused::from(Refusal::from(error))
+    }
+}
+
+// The five figures of an answer: of an accepted proof number and place are 0; of a refused one value, closing reading and openings are, so that
+// nothing in them passes for a value, and the place is where no entry is refused.
+//
+// Ruled out, among others: the same value whatever the entries; a refusal that shows openings.
+impl From<Answer> for Figures {
+    ghost from_gives = { λ answer shown. shown ≡ figures (told answer) };
+
+    fn from(answer: Answer) -> Figures {
+        match answer {
+            Ok(accepted) => Figures {
+                number: 0,
+                value: accepted.running.value,
+                closing: accepted.closing.0,
                 place: 0,
-                openings: running.openings,
+                openings: accepted.running.openings,
             },
-            Answer::Refused(number, place) => Figures {
-                number,
+            Err(refused) => Figures {
+                number: refused.refusal.number(),
                 value: 0,
                 closing: 0,
-                place,
+                place: refused.place,
                 openings: 0,
             },
         }

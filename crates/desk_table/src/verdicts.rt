@@ -13,13 +13,9 @@ use validity::proof::{Kind, Proof};
 pub fn verdict_count(kind: Kind, len: usize) -> usize
     ensures { result ≡ verdicts_for kind len }
 {
-    let proof = Proof::new(kind, 0);
-    let before = count_before(proof);
-    let log = proof.log_offset();
-    if len < log {
-        return before;
-    }
-    before + (len - log) / Request::LEN
+    let proof = Proof { kind, count: 0 };
+    let entries = len.saturating_sub(proof.log_offset());
+    count_before(proof) + entries / Request::LEN
 }
 
 // How many verdicts stand before those of the entries: the confirmation's, and in a read's proof the clock certificate's. The first entry's stand from
@@ -29,8 +25,7 @@ pub fn verdict_count(kind: Kind, len: usize) -> usize
 pub fn count_before(proof: Proof) -> usize
     ensures { result ≡ verdicts_before proof.kind }
 {
-    let kind = proof.kind;
-    match kind {
+    match proof.kind {
         Kind::Read => 2,
         Kind::Increment => 1,
     }
@@ -43,13 +38,9 @@ pub fn count_before(proof: Proof) -> usize
 pub fn zero_or_one(verdicts: &[u8]) -> bool
     ensures { result ≡ zero_or_one verdicts.now }
 {
-    let mut i = 0;
     let mut fine = true;
-    while i < verdicts.len() {
-        if 1 < verdicts[i] {
-            fine = false;
-        }
-        i += 1;
+    for &verdict in verdicts {
+        fine = fine & (verdict <= 1);
     }
     fine
 }
@@ -68,11 +59,11 @@ pub fn is_own(named: bool, verdict: u8) -> bool
 // this check never refuses it.
 //
 // Ruled out, among others: the confirmation's verdict taken for the certificate's; an increment's proof refused for the verdict on its first entry.
+#[tactic(auto, unfolding(crate::specs::Desk::certificate_denied))]
 pub fn certificate_denied(proof: Proof, verdicts: &[u8]) -> bool
     ensures { result ≡ certificate_denied proof.kind verdicts.now }
 {
-    let kind = proof.kind;
-    match kind {
+    match proof.kind {
         Kind::Read => byte_at(verdicts, 1) == 0,
         Kind::Increment => false,
     }

@@ -5,7 +5,8 @@
 mod message;
 mod show;
 
-use message::{counted, eight, three, two};
+use forms::request::Request;
+use message::{counted, request};
 use show::{show, show_lengths};
 use std::io;
 
@@ -22,7 +23,19 @@ fn main(rt: HostRuntime) -> io::Result<()> {
     )?;
     show(&rt, &[b'a'; 10000])?;
     show_lengths(&rt, &counted(), 1)?;
-    show_lengths(&rt, &two(), 28)?;
-    show_lengths(&rt, &three(), 28)?;
-    show_lengths(&rt, &eight(), 28)
+    let two = [request(1, 7, 100), request(2, 9, 100)];
+    show_lengths(&rt, two.as_flattened(), Request::LEN)?;
+    let three = [request(3, 9, 101), request(4, 7, 101), request(6, 11, 100)];
+    show_lengths(&rt, three.as_flattened(), Request::LEN)?;
+    let eight = [
+        request(1, 7, 100),
+        request(2, 8, 100),
+        request(3, 9, 100),
+        request(4, 10, 100),
+        request(5, 11, 100),
+        request(6, 12, 100),
+        request(7, 13, 100),
+        request(8, 14, 100),
+    ];
+    show_lengths(&rt, eight.as_flattened(), Request::LEN)
 }

@@ -2,40 +2,31 @@
 ghost use Rattle.std.specs.Prelude.{◌<◌};
 
 use digest::sha1::sha1;
-use std::io;
-use text::part::front;
+use std::{fmt, io};
 
-const LEN: usize = 20;
+// The twenty bytes of a digest.
+#[derive(Clone, Copy)]
+struct Digest([u8; 20]);
 
-fn hex_digit(n: u8) -> u8 {
-    let digit = n % 16;
-    if digit < 10 {
-        b'0' + digit
-    } else {
-        b'a' + (digit - 10)
+impl fmt::Display for Digest {
+    fn fmt<W: fmt::Write>(&self, f: &mut fmt::Formatter<W>) -> fmt::Result {
+        for byte in self.0 {
+            write!(f, "{byte:02x}")?;
+        }
+        Ok(())
     }
 }
 
 pub(crate) fn show(rt: &impl Print, message: &[u8]) -> io::Result<()> {
-    let digest = sha1(message);
-    let mut line = [b'\n'; 2 * LEN + 1];
-    let mut i: usize = 0;
-    while i < LEN {
-        line[2 * i] = hex_digit(digest[i] / 16);
-        line[2 * i + 1] = hex_digit(digest[i]);
-        i += 1;
-    }
-    rt.write_all(&line)
+    println!(rt; "{}", Digest(sha1(message)))
 }
 
 // The digests of the first bytes of a message, from none to all by steps.
 pub(crate) fn show_lengths(rt: &impl Print, message: &[u8], step: usize) -> io::Result<()>
-    requires { (0 < step) × (step < 1000) }
+    requires { 0 < step }
 {
-    let mut i: usize = 0;
-    while i <= message.len() {
-        show(rt, front(message, i))?;
-        i += step;
+    for len in (0..=message.len()).step_by(step) {
+        show(rt, &message[..len])?;
     }
     Ok(())
 }

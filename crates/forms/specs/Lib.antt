@@ -11,5 +11,6 @@ pub mod Limits
 pub mod Log
 pub mod Number
 pub mod Record
+pub mod Refusal
 pub mod Request
 pub mod Terms

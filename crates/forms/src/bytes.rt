@@ -1,13 +1,6 @@
 // Single bytes and runs of bytes at a place of a slice.
-ghost use Rattle.std.specs.Prelude.{◌≡◌, ◌<◌, get_or};
+ghost use Rattle.std.specs.Prelude.{◌≡◌, ◌+◌, get_or, leb, length};
 ghost use Rattle.forms.specs.Bytes.{overwrite};
-
-// A byte as a number of 32 bits.
-pub fn wide(b: u8) -> u32
-    ensures { (result ≡ b) × (result < 256) }
-{
-    b as u32
-}
 
 // The byte at a place, 0 past the end.
 pub fn byte_at(s: &[u8], at: usize) -> u8
@@ -16,19 +9,20 @@ pub fn byte_at(s: &[u8], at: usize) -> u8
     if at < s.len() { s[at] } else { 0 }
 }
 
+// Whether there are so many bytes from a place on.
+//
+// Ruled out, among others: yes for a place past the end where no byte is asked for; a sum that wraps.
+pub fn fits(s: &[u8], at: usize, len: usize) -> bool
+    ensures { result ≡ leb (at + len) (length s.now) }
+{
+    at <= s.len() && len <= s.len() - at
+}
+
 // Stores all of v from a place on, or nothing where v does not fit there.
 pub fn put(s: &mut [u8], at: usize, v: &[u8])
     ensures { s.new ≡ overwrite s.old at v.now }
 {
-    if s.len() < at {
-        return;
-    }
-    if s.len() - at < v.len() {
-        return;
-    }
-    let mut i = 0;
-    while i < v.len() {
-        s[at + i] = v[i];
-        i += 1;
+    if fits(s, at, v.len()) {
+        s[at..at + v.len()].copy_from_slice(v);
     }
 }

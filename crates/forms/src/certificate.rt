@@ -4,7 +4,7 @@ ghost use Rattle.forms.specs.Bytes.{overwrite, same, window};
 ghost use Rattle.forms.specs.Limits.{certificate_len, nonce_len};
 ghost use Rattle.forms.specs.Certificate.{certificate_at, certificate_bytes};
 
-use crate::bytes::put;
+use crate::bytes::{fits, put};
 use crate::nonce::{self, Nonce};
 use crate::number::{get_u32, put_u32};
 use crate::terms::GlobalClock;
@@ -48,10 +48,7 @@ impl Certificate {
     pub fn write(self, s: &mut [u8], at: usize)
         ensures { s.new ≡ overwrite s.old at (certificate_bytes self) }
     {
-        if s.len() < at {
-            return;
-        }
-        if s.len() - at < Certificate::LEN {
+        if !fits(s, at, Certificate::LEN) {
             return;
         }
         put_u32(s, at, self.reading.0);

@@ -4,10 +4,11 @@ ghost use Rattle.forms.specs.Bytes.{overwrite};
 ghost use Rattle.forms.specs.Limits.{confirmation_len};
 ghost use Rattle.forms.specs.Confirmation.{confirmation_at, confirmation_bytes};
 
+use crate::bytes::fits;
 use crate::number::{get_u32, put_u32};
 use crate::terms::{CounterId, GlobalClock};
 
-#[derive(Clone, Copy)]
+#[derive(Clone, Copy, Debug)]
 pub struct Confirmation {
     pub id: CounterId,
     pub value: u32,
@@ -51,10 +52,7 @@ impl Confirmation {
     pub fn write(self, s: &mut [u8], at: usize)
         ensures { s.new ≡ overwrite s.old at (confirmation_bytes self) }
     {
-        if s.len() < at {
-            return;
-        }
-        if s.len() - at < Confirmation::LEN {
+        if !fits(s, at, Confirmation::LEN) {
             return;
         }
         put_u32(s, at, self.id.0);

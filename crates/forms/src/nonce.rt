@@ -4,7 +4,7 @@ ghost use Rattle.forms.specs.Bytes.{window, same};
 ghost use Rattle.forms.specs.Limits.{nonce_len};
 ghost use Rattle.forms.specs.Number.{be32};
 
-use crate::bytes::byte_at;
+use crate::bytes::{byte_at, fits};
 use crate::number::u32_at;
 
 pub const LEN: usize = 20;
@@ -19,10 +19,8 @@ pub fn nonce_at(s: &[u8], at: usize) -> Nonce
     if s.len() <= at {
         return nonce;
     }
-    let mut i: usize = 0;
-    while i < LEN {
+    for i in 0..LEN {
         nonce[i] = byte_at(s, at + i);
-        i += 1;
     }
     nonce
 }
@@ -53,7 +51,7 @@ fn words_agree(a: &[u8], b: &[u8]) -> bool
 pub fn agree(s: &[u8], at: usize, nonce: &[u8]) -> bool
     ensures { result ≡ same (window s.now at nonce_len) (window nonce.now 0 nonce_len) }
 {
-    if LEN <= s.len() && at <= s.len() - LEN && LEN <= nonce.len() {
+    if fits(s, at, LEN) && LEN <= nonce.len() {
         return words_agree(&s[at..at + LEN], &nonce[..LEN]);
     }
     // Zeros stand for bytes that are not there. The slices are lent on as parts: as they are, they would have to stand in memory above too.

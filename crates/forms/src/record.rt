@@ -4,6 +4,7 @@ ghost use Rattle.forms.specs.Bytes.{overwrite};
 ghost use Rattle.forms.specs.Limits.{record_len};
 ghost use Rattle.forms.specs.Record.{record_at, record_bytes, taken};
 
+use crate::bytes::fits;
 use crate::confirmation::Confirmation;
 use crate::number::{get_u32, put_u32};
 
@@ -66,10 +67,7 @@ impl Record {
     pub fn write(self, s: &mut [u8], at: usize)
         ensures { s.new ≡ overwrite s.old at (record_bytes self) }
     {
-        if s.len() < at {
-            return;
-        }
-        if s.len() - at < Record::LEN {
+        if !fits(s, at, Record::LEN) {
             return;
         }
         self.held.write(s, at);

@@ -1,5 +1,5 @@
 // The fields that a proof's bytes read as, a line each for the confirmation, the clock certificate, the first and the last entry and their requests.
-// Each function puts its part into the text of a case from a place on, and answers the place behind it.
+use crate::out::Out;
 use crate::sample;
 use forms::certificate::Certificate;
 use forms::confirmation::Confirmation;
@@ -8,154 +8,107 @@ use forms::log::log_end;
 use forms::nonce::nonce_at;
 use forms::request::Request;
 use text::checksum::checksum;
-use text::line::{put_figure, put_filled, put_words};
 use text::part::front;
-use validity::proof::{Kind, Parsed, Proof, parse, parse_number};
+use validity::proof::{Kind, Proof, parse, parse_number};
 
-pub(crate) fn put_verdict(text: &mut [u8], at: usize, verdict: bool) -> usize {
-    if verdict {
-        put_words(text, at, b" yes")
-    } else {
-        put_words(text, at, b" no")
-    }
-}
-
-// Ends the line with whether the nonce is the one written and whether it is another.
-fn put_verdicts(text: &mut [u8], at: usize, same: bool, other: bool) -> usize {
-    let mut end = put_verdict(text, at, same);
-    end = put_verdict(text, end, other);
-    put_words(text, end, b"\n")
+// Ends the line with whether a nonce is that of a seed, and whether it is another.
+fn put_verdicts<F: Fn(&[u8]) -> bool>(out: &mut Out, seed: u8, is: F)
+    requires { F.IsAlwaysCallable is }
+{
+    out.verdict(is(&sample::nonce(seed)));
+    out.verdict(is(&sample::other(seed)));
+    out.words(b"\n");
 }
 
 // Id, value and reading.
-fn put_confirmation(text: &mut [u8], at: usize, s: &[u8]) -> usize {
+fn put_confirmation(out: &mut Out, s: &[u8]) {
     let read = Confirmation::read(s, Proof::CONFIRMATION);
     let figures = [read.id.0, read.value, read.reading.0];
-    put_filled(text, at, b"confirmation:###\n", &figures)
+    out.filled(b"confirmation:###\n", &figures);
 }
 
 // The certificate's reading.
-fn put_certificate(text: &mut [u8], at: usize, s: &[u8], place: usize) -> usize {
-    let nonce = sample::nonce(sample::CERTIFICATE_SEED);
-    let other = sample::other(sample::CERTIFICATE_SEED);
-    let reading = Certificate::reading_at(s, place).0;
-    let end = put_filled(text, at, b"certificate:#", &[reading]);
-    put_verdicts(
-        text,
-        end,
-        Certificate::nonce_is(s, place, &nonce),
-        Certificate::nonce_is(s, place, &other),
-    )
-}
-
-// Nothing in kind 2.
-fn put_certificate_of(text: &mut [u8], at: usize, s: &[u8], proof: Proof) -> usize {
-    let kind = proof.kind;
-    match kind {
-        Kind::Read => put_certificate(text, at, s, proof.certificate_offset()),
-        Kind::Increment => at,
-    }
-}
-
-// Ends the line with one number for a nonce, whether it is that of a seed and whether it is another.
-fn put_nonce(text: &mut [u8], at: usize, sum: u32, same: bool, other: bool) -> usize {
-    let end = put_figure(text, at, sum);
-    put_verdicts(text, end, same, other)
+fn put_certificate(out: &mut Out, s: &[u8], place: usize) {
+    out.filled(b"certificate:#", &[Certificate::reading_at(s, place).0]);
+    put_verdicts(out, sample::CERTIFICATE_SEED, |nonce| {
+        Certificate::nonce_is(s, place, nonce)
+    });
 }
 
 // Id, value before and nonce of the request at an offset.
-fn put_request(text: &mut [u8], at: usize, s: &[u8], offset: usize, index: u32, seed: u8) -> usize {
+fn put_request(out: &mut Out, s: &[u8], offset: usize, index: u32, seed: u8) {
     let figures = [
         index,
         Request::id_at(s, offset).0,
         Request::before_at(s, offset),
+        checksum(&Request::nonce_at(s, offset)),
     ];
-    let end = put_filled(text, at, b"request#:##", &figures);
-    let nonce = Request::nonce_at(s, offset);
-    put_nonce(
-        text,
-        end,
-        checksum(&nonce),
-        Request::nonce_is(s, offset, &sample::nonce(seed)),
-        Request::nonce_is(s, offset, &sample::other(seed)),
-    )
+    out.filled(b"request#:###", &figures);
+    put_verdicts(out, seed, |nonce| Request::nonce_is(s, offset, nonce));
 }
 
-// Reading, count and nonce of the entry at an offset.
-fn put_head(text: &mut [u8], at: usize, s: &[u8], offset: usize, place: u32) -> usize {
-    if s.len() <= offset {
-        return at;
-    }
-    let seed = sample::entry_seed(place);
+// Reading, count and nonce of an entry.
+fn put_head(out: &mut Out, entry: &[u8], place: u32) {
     let figures = [
         place,
-        Head::reading_at(s, offset).0,
-        Head::count_at(s, offset),
+        Head::reading_at(entry, 0).0,
+        Head::count_at(entry, 0),
+        checksum(&nonce_at(entry, Head::NONCE)),
     ];
-    let end = put_filled(text, at, b"entry#:##", &figures);
-    let nonce = nonce_at(s, offset + Head::NONCE);
-    put_nonce(
-        text,
-        end,
-        checksum(&nonce),
-        Head::nonce_is(s, offset, &sample::nonce(seed)),
-        Head::nonce_is(s, offset, &sample::other(seed)),
-    )
+    out.filled(b"entry#:###", &figures);
+    put_verdicts(
+        out,
+        sample::entry_seed(place),
+        |nonce| Head::nonce_is(entry, 0, nonce),
+    );
 }
 
 // The entry at an offset and its requests, a line each.
-fn put_entry(text: &mut [u8], at: usize, s: &[u8], offset: usize, place: u32) -> usize {
-    if s.len() <= offset {
-        return at;
-    }
-    let mut end = put_head(text, at, s, offset, place);
-    let count = Head::count_at(s, offset);
-    let mut index: u32 = 0;
-    while index < count {
+fn put_entry(out: &mut Out, s: &[u8], offset: usize, place: u32) {
+    let Some(entry) = s.get(offset..) else {
+        return;
+    };
+    put_head(out, entry, place);
+    for index in 0..Head::count_at(entry, 0) {
         let seed = sample::request_seed(place, index);
-        end = put_request(text, end, s, offset + entry_len(index), index, seed);
-        index += 1;
+        put_request(out, entry, entry_len(index), index, seed);
     }
-    end
 }
 
 // The first entry, and the last where it is another.
-fn put_entries(text: &mut [u8], at: usize, s: &[u8], log: usize, count: u32) -> usize {
-    if count == 0 {
-        return at;
+fn put_entries(out: &mut Out, s: &[u8], log: usize, count: u32) {
+    if 0 < count {
+        put_entry(out, s, log, 0);
     }
-    let end = put_entry(text, at, s, log, 0);
-    let last = count - 1;
-    if last == 0 {
-        return end;
+    if 1 < count {
+        let last = count - 1;
+        put_entry(out, s, log_end(s, log, last).offset, last);
     }
-    put_entry(text, end, s, log_end(s, log, last).offset, last)
 }
 
-// The fields of bytes that read as a proof.
-fn put_all(text: &mut [u8], at: usize, s: &[u8]) -> usize {
-    let Parsed::Proof(proof) = parse(s) else {
-        return at;
+// The fields of bytes that read as a proof. In kind 2 there is no certificate.
+fn put_all(out: &mut Out, s: &[u8]) {
+    let Ok(proof) = parse(s) else {
+        return;
     };
-    let mut end = put_confirmation(text, at, s);
-    end = put_certificate_of(text, end, s, proof);
-    put_entries(text, end, s, proof.log_offset(), proof.count)
+    put_confirmation(out, s);
+    if let Kind::Read = proof.kind {
+        put_certificate(out, s, proof.certificate_offset());
+    }
+    put_entries(out, s, proof.log_offset(), proof.count);
 }
 
 // Document 01's number for reading the bytes, and the number of entries.
-fn put_reading(text: &mut [u8], at: usize, s: &[u8]) -> usize {
+fn put_reading(out: &mut Out, s: &[u8]) {
     let parsed = parse(s);
-    let number = parse_number(parsed);
-    let Parsed::Proof(proof) = parsed else {
-        return put_filled(text, at, b"##", &[number, 0]);
-    };
-    put_filled(text, at, b"##", &[number, proof.count])
+    let count = parsed.map_or(0, |proof| proof.count);
+    out.filled(b"##", &[parse_number(parsed), count]);
 }
 
 // Ends the line with what the first bytes read as and one number for all bytes; then the fields.
-pub(crate) fn put_read_back(text: &mut [u8], at: usize, out: &[u8], len: usize) -> usize {
-    let proof = front(out, len);
-    let mut end = put_reading(text, at, proof);
-    end = put_filled(text, end, b"#\n", &[checksum(out)]);
-    put_all(text, end, proof)
+pub(crate) fn put_read_back(out: &mut Out, bytes: &[u8], len: usize) {
+    let proof = front(bytes, len);
+    put_reading(out, proof);
+    out.filled(b"#\n", &[checksum(bytes)]);
+    put_all(out, proof);
 }

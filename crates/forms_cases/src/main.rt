@@ -6,6 +6,7 @@ mod counts;
 mod damage;
 mod fields;
 mod nonces;
+mod out;
 mod refusal;
 mod roundtrip;
 mod sample;

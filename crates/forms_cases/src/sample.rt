@@ -23,8 +23,6 @@ pub const OUTPUT_LEN: usize = Proof::MAX_LEN + LogEnd::UNIT_LEN;
 // What an output holds before.
 pub const UNTOUCHED: u8 = 0xA5;
 
-const LARGEST: u32 = 4294967295;
-
 const READING: u32 = 0x090A0B0C;
 
 pub const CERTIFICATE_SEED: u8 = 0xF8;
@@ -37,20 +35,11 @@ pub(crate) fn certificate() -> Certificate {
     Certificate::new(GlobalClock(0x0D0E0F10), nonce(CERTIFICATE_SEED))
 }
 
-// The byte behind, with 0 behind 255.
-pub(crate) fn next(byte: u8) -> u8 {
-    if byte < 255 { byte + 1 } else { 0 }
-}
-
-// Twenty bytes that count up from the seed.
+// Twenty bytes that count up from the seed, with 0 behind 255.
 pub(crate) fn nonce(seed: u8) -> Nonce {
-    let mut nonce = [0u8; LEN];
-    let mut byte = seed;
-    let mut i: usize = 0;
-    while i < LEN {
-        nonce[i] = byte;
-        byte = next(byte);
-        i += 1;
+    let mut nonce = [seed; LEN];
+    for (byte, place) in nonce.iter_mut().zip(0..) {
+        *byte = seed.wrapping_add(place);
     }
     nonce
 }
@@ -65,35 +54,29 @@ pub(crate) fn other(seed: u8) -> Nonce {
 // The seeds of an entry's nonce and of its requests' nonces, by the entry's place among those of its sort, from 0, and the request's index.
 
 pub(crate) fn entry_seed(place: u32) -> u8 {
-    ((place % 256 + 128) % 256) as u8
+    (place.wrapping_add(128) % 256) as u8
 }
 
 pub(crate) fn request_seed(place: u32, index: u32) -> u8 {
-    ((place % 256 + 16 * (index % 16)) % 256) as u8
+    (place.wrapping_add(index.wrapping_mul(16)) % 256) as u8
 }
 
-fn put_head(entries: &mut [u8], at: usize, place: u32, reading: u32, count: u32) {
-    Head::new(GlobalClock(reading), count, nonce(entry_seed(place))).write(entries, at);
+fn put_head(entry: &mut [u8], place: u32, reading: u32, count: u32) {
+    Head::new(GlobalClock(reading), count, nonce(entry_seed(place))).write(entry, 0);
 }
 
-// Stores the request at an index behind the head of the entry at an offset.
-fn put_request(entries: &mut [u8], at: usize, place: u32, index: u32, id: u32, before: u32) {
-    if entries.len() <= at {
-        return;
-    }
+// Stores the request at an index behind the head of an entry.
+fn put_request(entry: &mut [u8], place: u32, index: u32, id: u32, before: u32) {
     let request = Request::new(nonce(request_seed(place, index)), CounterId(id), before);
-    request.write(entries, at + entry_len(index));
+    request.write(entry, entry_len(index));
 }
 
-// Stores the entry of a place with so many requests at an offset.
-fn put_entry(entries: &mut [u8], at: usize, place: u32, count: u32) {
-    put_head(entries, at, place, READING + 1 + place % 65536, count);
-    let mut index: u32 = 0;
-    while index < count {
-        let id = 0x11121314 + index % 65536;
-        let before = 0x21222324 + place % 65536;
-        put_request(entries, at, place, index, id, before);
-        index += 1;
+// Stores the entry of a place with so many requests.
+fn put_entry(entry: &mut [u8], place: u32, count: u32) {
+    put_head(entry, place, place.wrapping_add(READING + 1), count);
+    let before = place.wrapping_add(0x21222324);
+    for index in 0..count {
+        put_request(entry, place, index, index.wrapping_add(0x11121314), before);
     }
 }
 
@@ -108,41 +91,44 @@ enum Sort {
     Rising,
 }
 
-fn count_of(sort: Sort, place: u32) -> u32 {
-    match sort {
-        Sort::Singles => { if place % 3 == 1 { 0 } else { 1 } }
-        Sort::Shared => Head::MAX_COUNT,
-        Sort::Rising => place % 9,
+impl Sort {
+    fn count(self, place: u32) -> u32 {
+        match self {
+            Sort::Singles if place % 3 == 1 => 0,
+            Sort::Singles => 1,
+            Sort::Shared => Head::MAX_COUNT,
+            Sort::Rising => place % 9,
+        }
     }
 }
 
 // Stores so many entries of a sort from an offset on, and answers the offset behind them.
 fn put_sort(entries: &mut [u8], from: usize, sort: Sort, entry_count: u32) -> usize {
     let mut at = from;
-    let mut place: u32 = 0;
-    while place < entry_count {
-        if entries.len() <= at {
+    for place in 0..entry_count {
+        let Some(entry) = entries.get_mut(at..) else {
             return at;
-        }
-        let count = count_of(sort, place);
-        put_entry(entries, at, place, count);
+        };
+        let count = sort.count(place);
+        put_entry(entry, place, count);
         at += entry_len(count);
-        place += 1;
     }
     at
 }
 
 // Stores two whose readings do not follow a confirmation's: 0, with two requests of no counter, and then the largest.
 fn put_misread(entries: &mut [u8], at: usize) {
-    if entries.len() <= at {
+    let Some(first) = entries.get_mut(at..) else {
         return;
-    }
-    put_head(entries, at, 0, 0, 2);
-    put_request(entries, at, 0, 0, 0, 5);
-    put_request(entries, at, 0, 1, 0, 5);
-    let behind = at + entry_len(2);
-    put_head(entries, behind, 1, LARGEST, 1);
-    put_request(entries, behind, 1, 0, LARGEST, LARGEST);
+    };
+    put_head(first, 0, 0, 2);
+    put_request(first, 0, 0, 0, 5);
+    put_request(first, 0, 1, 0, 5);
+    let Some(second) = first.get_mut(entry_len(2)..) else {
+        return;
+    };
+    put_head(second, 1, u32::MAX, 1);
+    put_request(second, 1, 0, u32::MAX, u32::MAX);
 }
 
 // Stores all entries.

@@ -1,10 +1,10 @@
 -- The lines that the program takes: document 01, "The program". A line is words, one space apart: a name and its figures. Assumes nothing.
-use Rattle.std.specs.Prelude.{ℕ, cond, List, [], ◌∷◌, eqb, leb}
+use Rattle.std.specs.Prelude.{ℕ, cond, List, [], ◌∷◌, eqb, leb, Option, Some, None}
 use Rattle.forms.specs.Bytes.{same}
 use Rattle.forms.specs.Checks.{Row, ◌gives◌, first_answer}
 use Rattle.forms.specs.Confirmation.{confirmation_of}
 use Rattle.forms.specs.Terms.{counter_id, global_clock}
-use Rattle.grammar.specs.Numeral.{Figure, figure_of}
+use Rattle.grammar.specs.Numeral.{figure_of}
 pub use Rattle.grammar.specs.declared.command.Arguments.{Arguments}
 pub use Rattle.grammar.specs.declared.command.Command.{Command}
 
@@ -26,29 +26,29 @@ words (b ∷ s) = cond (eqb b space) ([] ∷ words s) (on_first b (words s))
 -- ---- figures
 
 -- one figure, two or three; all else is none of the lines
-abbrev pub one_of : Figure → Arguments
-one_of (Figure.Number a) = Arguments.One a
-one_of Figure.Missing = Arguments.Bad
+abbrev pub one_of : Option ℕ → Option Arguments
+one_of (Some a) = Some (Arguments.One a)
+one_of None = None
 
-abbrev pub two_of : Figure → Figure → Arguments
-two_of (Figure.Number a) (Figure.Number b) = Arguments.Two a b
-two_of (Figure.Number a) Figure.Missing = Arguments.Bad
-two_of Figure.Missing b = Arguments.Bad
+abbrev pub two_of : Option ℕ → Option ℕ → Option Arguments
+two_of (Some a) (Some b) = Some (Arguments.Two a b)
+two_of (Some a) None = None
+two_of None b = None
 
 -- a third figure behind two
-abbrev pub third_to : Arguments → Figure → Arguments
-third_to (Arguments.Two a b) (Figure.Number c) = Arguments.Three a b c
-third_to (Arguments.Two a b) Figure.Missing = Arguments.Bad
-third_to (Arguments.One a) f = Arguments.Bad
-third_to (Arguments.Three a b c) f = Arguments.Bad
-third_to Arguments.Bad f = Arguments.Bad
+abbrev pub third_to : Option Arguments → Option ℕ → Option Arguments
+third_to (Some (Arguments.Two a b)) (Some c) = Some (Arguments.Three a b c)
+third_to (Some (Arguments.Two a b)) None = None
+third_to (Some (Arguments.One a)) f = None
+third_to (Some (Arguments.Three a b c)) f = None
+third_to None f = None
 
-unfoldable pub arguments_of : List (List ℕ) → Arguments
-arguments_of [] = Arguments.Bad
+unfoldable pub arguments_of : List (List ℕ) → Option Arguments
+arguments_of [] = None
 arguments_of (a ∷ []) = one_of (figure_of a)
 arguments_of (a ∷ b ∷ []) = two_of (figure_of a) (figure_of b)
 arguments_of (a ∷ b ∷ c ∷ []) = third_to (two_of (figure_of a) (figure_of b)) (figure_of c)
-arguments_of (a ∷ b ∷ c ∷ d ∷ ws) = Arguments.Bad
+arguments_of (a ∷ b ∷ c ∷ d ∷ ws) = None
 
 -- ---- names, in ASCII: start, open, tick, inc, read, prove, last, confirm
 
@@ -114,11 +114,11 @@ three_rows name a b c =
 abbrev pub named_three : List ℕ → ℕ → ℕ → ℕ → Command
 named_three name a b c = first_answer (three_rows name a b c) Command.Other
 
-abbrev pub named : List ℕ → Arguments → Command
-named name (Arguments.One a) = named_one name a
-named name (Arguments.Two a b) = named_two name a b
-named name (Arguments.Three a b c) = named_three name a b c
-named name Arguments.Bad = Command.Other
+abbrev pub named : List ℕ → Option Arguments → Command
+named name (Some (Arguments.One a)) = named_one name a
+named name (Some (Arguments.Two a b)) = named_two name a b
+named name (Some (Arguments.Three a b c)) = named_three name a b c
+named name None = Command.Other
 
 abbrev pub by_words : List (List ℕ) → Command
 by_words [] = Command.Other

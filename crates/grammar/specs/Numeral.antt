@@ -1,8 +1,7 @@
 -- Decimal figures read from text: document 01, "The program": "fields are decimal without leading zeros". Assumes nothing.
-use Rattle.std.specs.Prelude.{ℕ, ◌+◌, ◌-◌, ◌*◌, Bool, true, false, not, cond, ◌&&◌, List, [], ◌∷◌, eqb, leb}
+use Rattle.std.specs.Prelude.{ℕ, ◌+◌, ◌-◌, ◌*◌, Bool, true, false, not, cond, ◌&&◌, List, [], ◌∷◌, eqb, leb, Some, None, Option}
 use Rattle.forms.specs.Limits.{max_word}
 use Rattle.text.specs.Text.{zero_digit, is_digit}
-pub use Rattle.grammar.specs.declared.numeral.Figure.{Figure}
 
 unfoldable pub all_digits : List ℕ → Bool
 all_digits [] = true
@@ -23,5 +22,5 @@ unpadded (b ∷ []) = true
 unpadded (b ∷ c ∷ s) = not (eqb b zero_digit)
 
 -- the figure in a field; "a figure too large for its field" is none
-unfoldable pub figure_of : List ℕ → Figure
-figure_of s = cond (unpadded s && (all_digits s && leb (value_of s) max_word)) (Figure.Number (value_of s)) Figure.Missing
+unfoldable pub figure_of : List ℕ → Option ℕ
+figure_of s = cond (unpadded s && (all_digits s && leb (value_of s) max_word)) (Some (value_of s)) None

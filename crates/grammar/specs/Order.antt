@@ -1,6 +1,6 @@
 -- The lines that the bench takes: document 02, Note 8: "Lines, by the rules of document 01's program, .. are `start clock`, `tablet box period
 -- belief`, one `run rounds`, figures of 32 bits". Words and figures are those of `Command`. Assumes nothing.
-use Rattle.std.specs.Prelude.{ℕ, cond, List, [], ◌∷◌}
+use Rattle.std.specs.Prelude.{ℕ, cond, List, [], ◌∷◌, Option, Some, None}
 use Rattle.forms.specs.Bytes.{same}
 use Rattle.forms.specs.Checks.{Row, ◌gives◌, first_answer}
 use Rattle.forms.specs.Terms.{counter_id, global_clock}
@@ -31,11 +31,11 @@ order_one name a = first_answer (order_rows name a) Order.Other
 abbrev pub order_three : List ℕ → ℕ → ℕ → ℕ → Order
 order_three name a b c = cond (same name tablet_name) (Order.Tablet (counter_id a) b c) Order.Other
 
-abbrev pub order_named : List ℕ → Arguments → Order
-order_named name (Arguments.One a) = order_one name a
-order_named name (Arguments.Two a b) = Order.Other
-order_named name (Arguments.Three a b c) = order_three name a b c
-order_named name Arguments.Bad = Order.Other
+abbrev pub order_named : List ℕ → Option Arguments → Order
+order_named name (Some (Arguments.One a)) = order_one name a
+order_named name (Some (Arguments.Two a b)) = Order.Other
+order_named name (Some (Arguments.Three a b c)) = order_three name a b c
+order_named name None = Order.Other
 
 abbrev pub order_by : List (List ℕ) → Order
 order_by [] = Order.Other

@@ -1,26 +1,24 @@
 // The lines that the program takes: a name and its figures, one space apart.
-ghost use Rattle.std.specs.Prelude.{◌≡◌, ◌≤◌, length, take};
+ghost use Rattle.std.specs.Prelude.{◌≡◌};
+ghost use Rattle.std.specs.Option.{option_map};
 ghost use Rattle.forms.specs.Bytes.{same};
-ghost use Rattle.grammar.specs.Command.{arguments_of, command_of, named_one, named_three, named_two, one_of, third_to, two_of};
-ghost use Rattle.grammar.specs.Laws.CommandLaws.{rest_of};
+ghost use Rattle.grammar.specs.Command.{command_of, words};
+ghost use Rattle.grammar.specs.Laws.CommandLaws.{said_by};
 
-use crate::numeral::{Figure, read_figure};
+use crate::numeral::read_figure;
 use forms::confirmation::Confirmation;
 use forms::terms::{CounterId, GlobalClock};
-use text::part::find;
 
 // The figures behind a line's name.
-#[derive(Clone, Copy)]
+#[derive(Clone, Copy, Debug)]
 pub enum Arguments {
     One(u32),
     Two(u32, u32),
     Three(u32, u32, u32),
-    // No figure, more than three, or a word that is none.
-    Bad,
 }
 
 // What a line asks for. A byte stands for a nonce of that byte alone.
-#[derive(Clone, Copy)]
+#[derive(Clone, Copy, Debug)]
 pub enum Command {
     Start(GlobalClock),
     Open(Confirmation),
@@ -34,144 +32,32 @@ pub enum Command {
     Other,
 }
 
-// The largest byte that a line's nonce has.
-const MAX_BYTE: u32 = 255;
-
-fn one_of(a: Figure) -> Arguments
-    ensures { result ≡ one_of a }
+// A line's name and the figures behind it; none where there is no figure, more than three, or a word that is none.
+pub(crate) fn read_words(line: &[u8]) -> Option<(&[u8], Arguments)>
+    ensures { option_map (λ w. (w.0.now, w.1)) result ≡ said_by (words line.now) }
 {
-    match a {
-        Figure::Number(first) => Arguments::One(first),
-        Figure::Missing => Arguments::Bad,
+    let mut words = line.split(|&byte| byte == b' ');
+    let name = words.next()?;
+    let first = read_figure(words.next()?)?;
+    let Some(second) = words.next() else {
+        return Some((name, Arguments::One(first)));
+    };
+    let second = read_figure(second)?;
+    let Some(third) = words.next() else {
+        return Some((name, Arguments::Two(first, second)));
+    };
+    let third = read_figure(third)?;
+    match words.next() {
+        Some(_) => None,
+        None => Some((name, Arguments::Three(first, second, third))),
     }
 }
 
-fn two_of(a: Figure, b: Figure) -> Arguments
-    ensures { result ≡ two_of a b }
+// Whether a word is a name, of any length. A match on byte strings would read better, but the check learns only their length from it.
+pub(crate) fn is_name(word: &[u8], name: &[u8]) -> bool
+    ensures { result ≡ same word.now name.now }
 {
-    match a {
-        Figure::Number(first) => match b {
-            Figure::Number(second) => Arguments::Two(first, second),
-            Figure::Missing => Arguments::Bad,
-        },
-        Figure::Missing => Arguments::Bad,
-    }
-}
-
-// A third figure behind two.
-fn third_to(given: Arguments, c: Figure) -> Arguments
-    ensures { result ≡ third_to given c }
-{
-    match given {
-        Arguments::Two(first, second) => match c {
-            Figure::Number(third) => Arguments::Three(first, second, third),
-            Figure::Missing => Arguments::Bad,
-        },
-        Arguments::One(_) => Arguments::Bad,
-        Arguments::Three(_, _, _) => Arguments::Bad,
-        Arguments::Bad => Arguments::Bad,
-    }
-}
-
-// The figures behind the name that ends at a place.
-pub(crate) fn read_arguments(line: &[u8], end: usize) -> Arguments
-    requires { end ≤ length line.now }
-    ensures { result ≡ arguments_of (rest_of line.now end) }
-{
-    if end == line.len() {
-        return Arguments::Bad;
-    }
-    let first_end = find(line, end + 1, b' ');
-    let first = read_figure(line, end + 1, first_end);
-    if first_end == line.len() {
-        return one_of(first);
-    }
-    let second_end = find(line, first_end + 1, b' ');
-    let second = read_figure(line, first_end + 1, second_end);
-    if second_end == line.len() {
-        return two_of(first, second);
-    }
-    let third_end = find(line, second_end + 1, b' ');
-    let third = read_figure(line, second_end + 1, third_end);
-    if third_end == line.len() {
-        return third_to(two_of(first, second), third);
-    }
-    Arguments::Bad
-}
-
-// Whether the first bytes of a line, up to a place, are a name.
-pub(crate) fn is_name(line: &[u8], end: usize, name: &[u8]) -> bool
-    requires { end ≤ length line.now }
-    ensures { result ≡ same (take end line.now) name.now }
-{
-    if end != name.len() {
-        return false;
-    }
-    let mut i = 0;
-    while i < end {
-        if line[i] != name[i] {
-            return false;
-        }
-        i += 1;
-    }
-    true
-}
-
-// The command of a name and one figure.
-fn named_one(line: &[u8], end: usize, a: u32) -> Command
-    requires { end ≤ length line.now }
-    ensures { result ≡ named_one (take end line.now) a }
-{
-    if is_name(line, end, b"start") {
-        return Command::Start(GlobalClock(a));
-    }
-    if is_name(line, end, b"tick") {
-        if a <= MAX_BYTE {
-            return Command::Tick(a as u8);
-        }
-        return Command::Other;
-    }
-    if is_name(line, end, b"read") {
-        return Command::Read(CounterId(a));
-    }
-    Command::Other
-}
-
-// The command of a name and two figures.
-fn named_two(line: &[u8], end: usize, a: u32, b: u32) -> Command
-    requires { end ≤ length line.now }
-    ensures { result ≡ named_two (take end line.now) a b }
-{
-    if is_name(line, end, b"prove") {
-        if a <= MAX_BYTE {
-            return Command::Prove(a as u8, CounterId(b));
-        }
-        return Command::Other;
-    }
-    if is_name(line, end, b"last") {
-        return Command::Last(CounterId(a), GlobalClock(b));
-    }
-    Command::Other
-}
-
-// The command of a name and three figures.
-fn named_three(line: &[u8], end: usize, a: u32, b: u32, c: u32) -> Command
-    requires { end ≤ length line.now }
-    ensures { result ≡ named_three (take end line.now) a b c }
-{
-    if is_name(line, end, b"open") {
-        return Command::Open(Confirmation::new(CounterId(a), b, GlobalClock(c)));
-    }
-    if is_name(line, end, b"inc") {
-        if a <= MAX_BYTE {
-            return Command::Increment(a as u8, CounterId(b), c);
-        }
-        return Command::Other;
-    }
-    if is_name(line, end, b"confirm") {
-        return Command::Confirm(Confirmation::new(CounterId(a), b, GlobalClock(c)));
-    }
-    Command::Other
+    word == name
 }
 
 // The command that a line is, without its newline; `Other` for every line that is none.
@@ -180,12 +66,33 @@ fn named_three(line: &[u8], end: usize, a: u32, b: u32, c: u32) -> Command
 pub fn read_command(line: &[u8]) -> Command
     ensures { result ≡ command_of line.now }
 {
-    let end = find(line, 0, b' ');
-    let given = read_arguments(line, end);
-    match given {
-        Arguments::One(a) => named_one(line, end, a),
-        Arguments::Two(a, b) => named_two(line, end, a, b),
-        Arguments::Three(a, b, c) => named_three(line, end, a, b, c),
-        Arguments::Bad => Command::Other,
+    let Some((name, figures)) = read_words(line) else {
+        return Command::Other;
+    };
+    match figures {
+        Arguments::One(clock) if is_name(name, b"start") => Command::Start(GlobalClock(clock)),
+        Arguments::Three(id, value, reading) if is_name(name, b"open") => {
+            Command::Open(Confirmation::new(CounterId(id), value, GlobalClock(reading)))
+        }
+        Arguments::One(n) if is_name(name, b"tick") => {
+            u8::try_from(n).map_or(Command::Other, Command::Tick)
+        }
+        Arguments::Three(n, id, value) if is_name(name, b"inc") => {
+            u8::try_from(n).map_or(
+                Command::Other,
+                |b| Command::Increment(b, CounterId(id), value),
+            )
+        }
+        Arguments::One(id) if is_name(name, b"read") => Command::Read(CounterId(id)),
+        Arguments::Two(n, id) if is_name(name, b"prove") => {
+            u8::try_from(n).map_or(Command::Other, |b| Command::Prove(b, CounterId(id)))
+        }
+        Arguments::Two(id, clock) if is_name(name, b"last") => {
+            Command::Last(CounterId(id), GlobalClock(clock))
+        }
+        Arguments::Three(id, value, reading) if is_name(name, b"confirm") => {
+            Command::Confirm(Confirmation::new(CounterId(id), value, GlobalClock(reading)))
+        }
+        _ => Command::Other,
     }
 }

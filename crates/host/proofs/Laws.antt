@@ -13,6 +13,7 @@ pub mod JudgedLaws
 pub mod LastLaws
 pub mod LogEndsLaws
 pub mod OpenLaws
+pub mod OutcomeLaws
 pub mod ProveLaws
 pub mod RaiseLaws
 pub mod RefusalLaws

@@ -10,7 +10,7 @@ use forms::terms::{CounterId, GlobalClock};
 pub(crate) fn bad_confirmation(confirmation: Confirmation) -> bool
     ensures { result ≡ (eqb confirmation.id.0 0 || ltb confirmation.reading.0 confirmation.value) }
 {
-    confirmation.id.0 == 0 || confirmation.reading.0 < confirmation.value
+    confirmation.id == CounterId(0) || confirmation.reading.0 < confirmation.value
 }
 
 // 16: a nonce of another length than twenty bytes.
@@ -24,12 +24,12 @@ pub(crate) fn bad_nonce(nonce: &[u8]) -> bool
 pub(crate) fn bad_request(id: CounterId, nonce: &[u8]) -> bool
     ensures { result ≡ (eqb id.0 0 || bad_nonce nonce.now) }
 {
-    id.0 == 0 || bad_nonce(nonce)
+    id == CounterId(0) || bad_nonce(nonce)
 }
 
 // 21: an opening later than the clock, or with a value other than its reading.
 pub(crate) fn bad_opening(confirmation: Confirmation, now: GlobalClock) -> bool
     ensures { result ≡ (ltb now.0 confirmation.reading.0 || not (eqb confirmation.value confirmation.reading.0)) }
 {
-    now.0 < confirmation.reading.0 || confirmation.value != confirmation.reading.0
+    now < confirmation.reading || confirmation.value != confirmation.reading.0
 }

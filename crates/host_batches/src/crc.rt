@@ -3,7 +3,7 @@ use text::line::put_words;
 
 const POLYNOMIAL: u32 = 0xEDB88320;
 
-const DIGITS: usize = 8;
+const DIGITS: &[u8; 16] = b"0123456789abcdef";
 
 fn with_bit(sum: u32) -> u32 {
     if sum % 2 == 1 {
@@ -14,42 +14,20 @@ fn with_bit(sum: u32) -> u32 {
 }
 
 fn with_byte(sum: u32, byte: u8) -> u32 {
-    let mut next = sum ^ byte as u32;
-    let mut bit: u32 = 0;
-    while bit < 8 {
-        next = with_bit(next);
-        bit += 1;
-    }
-    next
+    (0..8).fold(sum ^ u32::from(byte), |next, _| with_bit(next))
 }
 
 pub(crate) fn crc32(s: &[u8]) -> u32 {
-    let mut sum = u32::MAX;
-    let mut i: usize = 0;
-    while i < s.len() {
-        sum = with_byte(sum, s[i]);
-        i += 1;
-    }
-    sum ^ u32::MAX
+    !s.iter().fold(u32::MAX, |sum, byte| with_byte(sum, *byte))
 }
 
 fn digit(figure: u8) -> u8 {
-    if figure < 10 {
-        b'0' + figure
-    } else {
-        b'a' + (figure - 10) % 6
-    }
+    DIGITS[usize::from(figure % 16)]
 }
 
 // Stores the digits, and answers the place behind them.
 pub(crate) fn put_hex(line: &mut [u8], at: usize, number: u32) -> usize {
-    let mut digits = [b'0'; DIGITS];
-    let mut left = number;
-    let mut i = DIGITS;
-    while 0 < i {
-        i -= 1;
-        digits[i] = digit((left % 16) as u8);
-        left /= 16;
-    }
-    put_words(line, at, &digits)
+    let [a, b, c, d] = number.to_be_bytes();
+    let halves = [a / 16, a, b / 16, b, c / 16, c, d / 16, d];
+    put_words(line, at, &halves.map(digit))
 }

@@ -1,5 +1,6 @@
 // The desk's answer to a proof that was written, with every verdict yes.
-use crate::call::Call;
+use crate::call::{Line, Word};
+use cases::call::Call;
 use console::judge::judge;
 use desk_table::answer::Figures;
 use forms::entry::Head;
@@ -27,13 +28,14 @@ fn last_nonce(proof: &[u8], id: CounterId) -> Nonce {
 }
 
 // Of `prove byte length id room`, and of `last id t room`: of a proof of so many bytes.
-pub(crate) fn answer(call: Call, len: u32, proof: &[u8]) -> Figures {
-    let figures = call.figures;
-    if call.word == b'p' {
-        let nonce = [(figures[0] % 256) as u8; LEN];
-        judge(Kind::Read, len, proof, CounterId(figures[2]), &nonce).figures()
+pub(crate) fn answer(asked: Line, len: u32, proof: &[u8]) -> Figures {
+    let [first, _, third, ..] = asked.figures;
+    if let Word::Call(Call::Prove) = asked.word {
+        let nonce = [(first % 256) as u8; LEN];
+        Figures::from(judge(Kind::Read, len, proof, CounterId(third), &nonce))
     } else {
-        let nonce = last_nonce(proof, CounterId(figures[0]));
-        judge(Kind::Increment, len, proof, CounterId(figures[0]), &nonce).figures()
+        let id = CounterId(first);
+        let nonce = last_nonce(proof, id);
+        Figures::from(judge(Kind::Increment, len, proof, id, &nonce))
     }
 }

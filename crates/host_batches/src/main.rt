@@ -9,6 +9,7 @@ mod crc;
 mod judge;
 mod table;
 
+use cases::table::Table;
 use forms::image::Image;
 use input::read_full;
 use std::io;
@@ -19,7 +20,10 @@ const INPUT: usize = 65536;
 fn main(rt: HostRuntime) -> io::Result<()> {
     let mut text = [0u8; INPUT];
     let len = read_full(&mut rt.stdin(), &mut text)?;
-    let mut image = [0u8; Image::LEN];
-    let mut kept = [0u8; Image::LEN];
-    table::run(&rt, &text[..len], &mut image, &mut kept)
+    let mut table = Table::new(Image::LEN);
+    for piece in text[..len].split_inclusive(|byte| *byte == b'\n') {
+        let line = piece.strip_suffix(b"\n").unwrap_or(piece);
+        table::row(&rt, &mut table, line)?;
+    }
+    Ok(())
 }

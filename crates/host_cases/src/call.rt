@@ -1,153 +1,126 @@
-// A line's word and figures, and the host's call that they stand for.
+// What a line asks for by its word and figures, and the answer of its call.
 use crate::many;
-use forms::bytes::byte_at;
-use forms::confirmation::Confirmation;
+use cases::call::Call;
+use cases::line::read_line;
+use cases::table::Change;
 use forms::nonce::LEN;
 use forms::number::put_u32;
-use forms::refusal;
+use forms::refusal::Refusal;
 use forms::request::Request;
-use forms::terms::{CounterId, GlobalClock};
-use host::answer::{BatchFigures, Figures, ReadFigures};
-use host::close::close;
-use host::confirm::confirm;
+use forms::terms::CounterId;
+use host::answer::{Batch, Figures, ReadFigures};
 use host::increment::increment;
-use host::last::last;
-use host::open::open;
-use host::prove::prove;
 use host::read::read;
-use host::start::start;
-use host::tick::tick;
-use text::figures::read_figures;
-use text::part::{between, find, front, least};
+use text::part::{front, least};
 
 const FIGURES: usize = 5;
 
-// Room for a nonce that is one byte too long, and for a request with one.
-const NONCE_ROOM: usize = LEN + 1;
-
+// Room for a request with a nonce that is one byte too long, and that nonce's length.
 const REQUEST_ROOM: usize = Request::LEN + 1;
 
-// The letter of a line's word, and its figures in order, 0 where there is none.
+const NONCE_ROOM: usize = LEN + 1;
+
+// A call, all of them but start, a change of the image or of what is lent of it, or something else.
 #[derive(Clone, Copy)]
-pub struct Call {
-    pub word: u8,
-    pub first: u32,
-    pub second: u32,
-    pub third: u32,
-    pub fourth: u32,
-    pub fifth: u32,
+pub enum Word {
+    Call(Call),
+    Inc,
+    Read,
+    Fill,
+    Hold,
+    Around,
+    Each,
+    Change(Change),
+    Byte,
+    Other,
 }
 
-// The first letter of a line's word; close has one of its own, since confirm begins with the same.
-fn letter(line: &[u8]) -> u8 {
-    let first = byte_at(line, 0);
-    if first == b'c' && byte_at(line, 1) == b'l' {
-        b'x'
-    } else {
-        first
-    }
-}
-
-impl Call {
-    fn new(word: u8, figures: [u32; FIGURES]) -> Self {
-        Call {
-            word,
-            first: figures[0],
-            second: figures[1],
-            third: figures[2],
-            fourth: figures[3],
-            fifth: figures[4],
+impl Word {
+    fn of(line: &[u8]) -> Self {
+        if let Some(call) = Call::of(line) {
+            return Word::Call(call);
+        }
+        if let Some(change) = Change::of(line) {
+            return Word::Change(change);
+        }
+        match line {
+            [b'i', ..] => Word::Inc,
+            [b'r', ..] => Word::Read,
+            [b'f', ..] => Word::Fill,
+            [b'h', ..] => Word::Hold,
+            [b'a', ..] => Word::Around,
+            [b'e', ..] => Word::Each,
+            [b'b', ..] => Word::Byte,
+            _ => Word::Other,
         }
     }
 
-    // The line up to its equals sign, behind which stands what is expected.
-    pub(crate) fn of(line: &[u8]) -> Self {
-        let space = find(line, 0, b' ');
-        let end = find(line, space, b'=');
-        let mut given = [0u32; FIGURES];
-        read_figures(between(line, space, end), &mut given);
-        Call::new(letter(line), given)
+    // Whether the call writes into an output.
+    pub(crate) fn has_output(self) -> bool {
+        matches!(self, Word::Call(Call::Prove | Call::Last))
     }
 }
 
-fn confirmation(call: Call) -> Confirmation {
-    Confirmation::new(CounterId(call.first), call.second, GlobalClock(call.third))
+// A line's word, and its figures in order, 0 where there is none.
+#[derive(Clone, Copy)]
+pub struct Line {
+    pub word: Word,
+    pub figures: [u32; FIGURES],
 }
 
-fn ticked(image: &mut [u8], call: Call) -> Figures {
-    let nonce = [(call.first % 256) as u8; NONCE_ROOM];
-    tick(image, front(&nonce, call.second as usize))
+// What a call answers: number and value, and read with the openings.
+#[derive(Clone, Copy)]
+pub enum Answer {
+    Plain(Figures),
+    Read(ReadFigures),
 }
 
-// A batch of one, whose bytes are no request where the nonce has another length: its own number, or that of a batch refused as a whole.
-fn incremented(image: &mut [u8], call: Call) -> Figures {
-    let len = least(call.second as usize, NONCE_ROOM);
-    let mut request = [(call.first % 256) as u8; REQUEST_ROOM];
-    put_u32(&mut request, len, call.third);
-    put_u32(&mut request, len + 4, call.fourth);
-    let verdict = [(call.fifth % 256) as u8];
-    of_one(increment(image, front(&request, len + 8), &verdict))
-}
-
-pub(crate) fn of_one(shown: BatchFigures) -> Figures {
-    let numbers = shown.numbers;
-    Figures {
-        number: if shown.number == refusal::NONE {
-            numbers[0]
-        } else {
-            shown.number
+// Of a batch of one its own number, or that of a batch refused as a whole.
+pub(crate) fn of_one(outcome: Result<Batch, Refusal>) -> Figures {
+    match outcome {
+        Ok(batch) => Figures {
+            number: batch.numbers[0],
+            value: batch.clock,
         },
-        value: shown.value,
+        Err(refusal) => Figures {
+            number: refusal.number(),
+            value: 0,
+        },
     }
 }
 
-fn proved(image: &mut [u8], call: Call, out: &mut [u8]) -> Figures {
-    let nonce = [(call.first % 256) as u8; NONCE_ROOM];
-    let lent = front(&nonce, call.second as usize);
-    let room = least(call.fourth as usize, out.len());
-    prove(image, lent, CounterId(call.third), &mut out[0..room])
-}
-
-fn proved_last(image: &mut [u8], call: Call, out: &mut [u8]) -> Figures {
-    let room = least(call.third as usize, out.len());
-    last(
-        image,
-        CounterId(call.first),
-        GlobalClock(call.second),
-        &mut out[0..room],
-    )
-}
-
-// What every call but read answers has no openings.
-fn without_openings(figures: Figures) -> ReadFigures {
-    ReadFigures {
-        number: figures.number,
-        value: figures.value,
-        openings: 0,
+impl Line {
+    pub(crate) fn of(text: &[u8]) -> Self {
+        let mut figures = [0u32; FIGURES];
+        read_line(text, &mut figures);
+        Line {
+            word: Word::of(text),
+            figures,
+        }
     }
-}
 
-// The answer of a line's call but read: `start clock`, `open id value reading verdict`, `tick byte length`, `inc byte length id before verdict`,
-// `prove byte length id room`, `last id t room`, `confirm id value reading verdict`, `close id value reading verdict`, and those of many.rt.
-fn settled(call: Call, image: &mut [u8], out: &mut [u8]) -> Figures {
-    let word = call.word;
-    match word {
-        b's' => start(image, GlobalClock(call.first)),
-        b'o' => open(image, confirmation(call), call.fourth),
-        b't' => ticked(image, call),
-        b'i' => incremented(image, call),
-        b'p' => proved(image, call, out),
-        b'l' => proved_last(image, call, out),
-        b'c' => confirm(image, confirmation(call), call.fourth),
-        b'x' => close(image, confirmation(call), call.fourth),
-        _ => many::made(image, call),
+    // A batch of one, whose bytes are no request where the nonce has another length.
+    fn incremented(self, image: &mut [u8]) -> Figures {
+        let [byte, len, id, before, verdict] = self.figures;
+        let len = least(len as usize, NONCE_ROOM);
+        let mut request = [(byte % 256) as u8; REQUEST_ROOM];
+        put_u32(&mut request, len, id);
+        put_u32(&mut request, len + 4, before);
+        let verdicts = [(verdict % 256) as u8];
+        of_one(increment(image, front(&request, len + 8), &verdicts))
     }
-}
 
-// The answer of a line's call: of those, or of `read id`.
-pub(crate) fn made(call: Call, image: &mut [u8], out: &mut [u8]) -> ReadFigures {
-    if call.word == b'r' {
-        return read(image, CounterId(call.first));
+    // The answer of a line's call: of those that the tables share, of `inc byte length id before verdict`, of `read id`, and of those of many.rt.
+    pub(crate) fn made(self, image: &mut [u8], out: &mut [u8]) -> Answer {
+        let [first, second, third, fourth, _] = self.figures;
+        match self.word {
+            Word::Call(call) => {
+                let figures = [first, second, third, fourth];
+                Answer::Plain(call.made(figures, image, out))
+            }
+            Word::Inc => Answer::Plain(self.incremented(image)),
+            Word::Read => Answer::Read(read(image, CounterId(first)).into()),
+            _ => Answer::Plain(many::made(image, self)),
+        }
     }
-    without_openings(settled(call, image, out))
 }

@@ -8,6 +8,7 @@ mod call;
 mod many;
 mod table;
 
+use cases::table::Table;
 use forms::image::Image;
 use input::read_full;
 use std::io;
@@ -21,7 +22,10 @@ pub(crate) const IMAGE_ROOM: usize = Image::LEN + 1;
 fn main(rt: HostRuntime) -> io::Result<()> {
     let mut text = [0u8; INPUT];
     let len = read_full(&mut rt.stdin(), &mut text)?;
-    let mut image = [0u8; IMAGE_ROOM];
-    let mut kept = [0u8; IMAGE_ROOM];
-    table::run(&rt, &text[..len], &mut image, &mut kept)
+    let mut table = Table::<IMAGE_ROOM>::new(Image::LEN);
+    for piece in text[..len].split_inclusive(|byte| *byte == b'\n') {
+        let line = piece.strip_suffix(b"\n").unwrap_or(piece);
+        table::row(&rt, &mut table, line)?;
+    }
+    Ok(())
 }

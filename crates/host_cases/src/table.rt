@@ -3,91 +3,31 @@
 // number` and `word place number`, which change one and four bytes of the image; `digest place`, which gives the entry there the digest of its
 // requests as they stand; `keep` and `undo`, which keep a copy of the image and bring it back; and `give length`, from which on so many bytes
 // of the image's buffer are lent.
-use crate::answer;
-use crate::call::Call;
-use digest::sha1::sha1;
-use forms::bytes::{byte_at, put};
-use forms::entry::{Head, entry_len};
-use forms::image::Image;
-use forms::number::put_u32;
+use crate::call::{Line, Word};
+use crate::{IMAGE_ROOM, answer};
+use cases::line::print_as_is;
+use cases::table::Table;
+use forms::bytes::put;
 use std::io;
-use text::line::put_words;
-use text::part::{between, find};
 
-fn put_byte(image: &mut [u8], at: u32, byte: u32) {
-    put(image, at as usize, &[(byte % 256) as u8]);
-}
-
-// Gives the entry at a place the digest of its requests as they stand.
-fn seal(image: &mut [u8], at: usize) {
-    if image.len() <= at {
-        return;
-    }
-    let end = at + entry_len(Head::count_at(image, at));
-    let nonce = sha1(between(image, at + Head::LEN, end));
-    put(image, at + Head::NONCE, &nonce);
-}
-
-fn is_call(word: u8) -> bool {
-    match word {
-        b's' | b'o' | b't' | b'i' | b'r' | b'p' | b'l' | b'c' | b'f' | b'h' | b'a' => true,
-        _ => false,
-    }
-}
-
-fn edit(call: Call, image: &mut [u8], kept: &mut [u8]) {
-    let word = call.word;
-    match word {
-        b'b' => put_byte(image, call.first, call.second),
-        b'w' => put_u32(image, call.first as usize, call.second),
-        b'd' => seal(image, call.first as usize),
-        b'k' => put(kept, 0, image),
-        b'u' => put(image, 0, kept),
+fn changed(table: &mut Table<IMAGE_ROOM>, line: Line) {
+    let [at, number, ..] = line.figures;
+    match line.word {
+        Word::Change(change) => table.change(change, at, number),
+        Word::Byte => put(&mut table.image, at as usize, &[(number % 256) as u8]),
         _ => (),
     }
 }
 
-// Answers how many bytes of the image's buffer the calls of the next line get.
-fn row(
-    rt: &impl Print,
-    text: &[u8],
-    lent: usize,
-    image: &mut [u8],
-    kept: &mut [u8],
-) -> io::Result<usize> {
-    let word = byte_at(text, 0);
-    if is_call(word) {
-        answer::print(rt, text, lent, image)?;
-        return Ok(lent);
+pub(crate) fn row(rt: &impl Print, table: &mut Table<IMAGE_ROOM>, text: &[u8]) -> io::Result<()> {
+    let line = Line::of(text);
+    match line.word {
+        Word::Each => answer::print_each(rt, table.lent, &mut table.image),
+        Word::Change(_) | Word::Byte | Word::Other => {
+            print_as_is(rt, &mut [0u8; answer::LINE_ROOM], text)?;
+            changed(table, line);
+            Ok(())
+        }
+        _ => answer::print(rt, text, table.lent, &mut table.image),
     }
-    if word == b'e' {
-        answer::print_each(rt, lent, image)?;
-        return Ok(lent);
-    }
-    let mut line = [0u8; answer::LINE_ROOM];
-    let end = put_words(&mut line, 0, text);
-    answer::print_line(rt, &mut line, end)?;
-    let call = Call::of(text);
-    edit(call, image, kept);
-    if word == b'g' {
-        Ok(call.first as usize)
-    } else {
-        Ok(lent)
-    }
-}
-
-pub(crate) fn run(
-    rt: &impl Print,
-    text: &[u8],
-    image: &mut [u8],
-    kept: &mut [u8],
-) -> io::Result<()> {
-    let mut lent = Image::LEN;
-    let mut from: usize = 0;
-    while from < text.len() {
-        let end = find(text, from, b'\n');
-        lent = row(rt, between(text, from, end), lent, image, kept)?;
-        from = end + 1;
-    }
-    Ok(())
 }

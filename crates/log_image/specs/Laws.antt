@@ -1,7 +1,9 @@
 pub mod DecodeLaws
 pub mod EndLaws
 pub mod FitLaws
+pub mod Found
 pub mod FrameLaws
+pub mod Held
 pub mod HintLaws
 pub mod Hints
 pub mod ImageParts

@@ -6,4 +6,5 @@ mod bytes;
 pub mod change;
 pub mod fresh;
 pub mod log;
+mod place;
 pub mod records;

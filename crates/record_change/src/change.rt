@@ -23,19 +23,18 @@ pub enum Change {
 pub fn changed(before: Record, change: Change) -> Record
     ensures { result ≡ changed_by change before }
 {
-    let mut next = before;
     match change {
-        Change::Confirmed(confirmation) => {
-            next.held = confirmation;
-        }
-        Change::Raised(reading) => {
-            next.current = reading.0;
-        }
-        Change::Proved => {
-            if next.proofs < u32::MAX {
-                next.proofs += 1;
-            }
-        }
+        Change::Confirmed(confirmation) => Record {
+            held: confirmation,
+            ..before
+        },
+        Change::Raised(reading) => Record {
+            current: reading.0,
+            ..before
+        },
+        Change::Proved => Record {
+            proofs: before.proofs.saturating_add(1),
+            ..before
+        },
     }
-    next
 }

@@ -2,10 +2,10 @@
 -- judge, confirms and adopts the value. On 24 it proves and confirms only, on 25 it does nothing." By the host's and the desk's own definitions.
 -- Assumes nothing.
 use Rattle.std.specs.Prelude.{ℕ, cond, List, eqb, length, take}
+use Rattle.desk_table.specs.Answer.{Answer, shows, refuses}
 use Rattle.forms.specs.declared.terms.CounterId.{CounterId}
 use Rattle.validity.specs.declared.proof.Kind.{Kind}
 use Rattle.desk_table.specs.Desk.{verified}
-use Rattle.desk_table.specs.declared.answer.Answer.{Answer}
 use Rattle.host.specs.Host.{Settled, confirm_call, prove_call, prove_output}
 use Rattle.host.specs.declared.answer.Figures.{Figures}
 use Rattle.console.specs.Step.{empty_output, raised_once, yes, yes_for}
@@ -27,9 +27,9 @@ pub record Renewed : Type 0 where
 
 -- on the desk's yes the value that it shows is confirmed, with the reading that the proof closes on; on its no nothing is, and the belief stays
 abbrev pub confirmed_shown : Answer → List ℕ → CounterId → ℕ → Renewed
-confirmed_shown (Answer.Accepted running closing) s id belief =
+confirmed_shown (shows running closing) s id belief =
     record { belief = running.value; image = (confirm_call s (record { id = id; value = running.value; reading = closing }) yes).image }
-confirmed_shown (Answer.Refused number place) s id belief = record { belief = belief; image = s }
+confirmed_shown (refuses number place) s id belief = record { belief = belief; image = s }
 
 unfoldable pub renewed : List ℕ → List ℕ → CounterId → ℕ → Renewed
 renewed s nonce id belief = confirmed_shown (judged_for s nonce id) (prove_call s nonce id (length empty_output)).image id belief

@@ -5,10 +5,9 @@ ghost use Rattle.tablets.specs.Act.{acted, renewed};
 use crate::tablet::{PROOF, RAISE, Tablet, nonce_for};
 use console::judge::judge;
 use console::step::raise_once;
-use desk_table::answer::Answer;
 use forms::confirmation::Confirmation;
 use forms::nonce::Nonce;
-use forms::refusal;
+use forms::refusal::Refusal;
 use forms::terms::CounterId;
 use host::confirm::confirm;
 use host::prove::prove;
@@ -23,15 +22,15 @@ fn renew(image: &mut [u8], nonce: Nonce, id: CounterId, belief: u32) -> u32
     ensures image_after { image.new ≡ (renewed image.old nonce id belief).image }
 {
     let mut out = [0u8; Proof::MAX_LEN];
-    let written = prove(image, &nonce, id, &mut out);
-    let answer = judge(Kind::Read, written.value, &out, id, &nonce);
-    match answer {
-        Answer::Accepted(running, closing) => {
-            let value = running.value;
-            confirm(image, Confirmation::new(id, value, closing), YES);
+    let len = prove(image, &nonce, id, &mut out).unwrap_or(0);
+    match judge(Kind::Read, len, &out, id, &nonce) {
+        Ok(accepted) => {
+            let value = accepted.running.value;
+            let confirmation = Confirmation::new(id, value, accepted.closing);
+            let _ = confirm(image, confirmation, YES);
             value
         }
-        Answer::Refused(_, _) => belief,
+        Err(_) => belief,
     }
 }
 
@@ -46,14 +45,14 @@ pub fn act(image: &mut [u8], round: u32, number: u32, tablet: Tablet) -> Tablet
     let id = tablet.id;
     let belief = tablet.belief;
     let answer = raise_once(image, nonce_for(RAISE, round, number), id, belief);
-    if answer.number == refusal::NONE {
+    if answer.number == 0 {
         return tablet.succeeded(answer.value);
     }
-    if answer.number == refusal::STALE {
+    if answer.number == Refusal::Stale.number() {
         let value = renew(image, nonce_for(PROOF, round, number), id, belief);
         return tablet.refused_stale().adopting(value);
     }
-    if answer.number == refusal::LOG_FULL {
+    if answer.number == Refusal::LogFull.number() {
         renew(image, nonce_for(PROOF, round, number), id, belief);
         return tablet.refused_full();
     }

@@ -6,16 +6,16 @@ ghost use Rattle.tablets.specs.Rounds.{after_rounds, after_turns, depot_of, divi
 use crate::act::act;
 use crate::tablet::{MAX_TABLETS, Tablet};
 use forms::terms::CounterId;
-use text::part::least;
 
-// The tablets by their numbers, which count from 0.
+// The tablets by their numbers, which count from 0. The length stands beside the array, since `size` and `run` answer for a count above 32 too, which
+// a vector of that room leaves out.
 #[derive(Clone, Copy)]
 pub struct Fleet {
     pub tablets: [Tablet; MAX_TABLETS],
     pub count: usize,
 }
 
-// Past every round of 32 bits.
+// Past every round of 32 bits: a tablet that never acts again is later than any, so that the nearest round is the least number.
 const NEVER: u64 = u32::MAX as u64 + 1;
 
 impl Fleet {
@@ -32,7 +32,14 @@ impl Fleet {
     pub fn size(self) -> usize
         ensures { result ≡ length (tablets_of self) }
     {
-        least(self.count, MAX_TABLETS)
+        self.count.min(MAX_TABLETS)
+    }
+
+    // The tablets themselves, by their numbers.
+    pub fn as_slice(&self) -> &[Tablet]
+        ensures { result.now ≡ tablets_of self.now }
+    {
+        &self.tablets[..self.size()]
     }
 }
 
@@ -40,13 +47,11 @@ impl Fleet {
 fn divides(period: u32, round: u32) -> bool
     ensures { result ≡ divides period round }
 {
-    if period == 0 {
-        return false;
-    }
-    round % period == 0
+    period != 0 && round % period == 0
 }
 
 // The first round, behind those that are done, which a period divides.
+#[tactic(auto, unfolding(crate::specs::Laws::Idle::next_turn))]
 fn next_turn(period: u32, done: u32) -> u64
     ensures { result ≡ next_turn period done }
 {
@@ -60,32 +65,21 @@ fn next_turn(period: u32, done: u32) -> u64
 fn next_round(fleet: Fleet, done: u32) -> u64
     ensures { result ≡ next_round (tablets_of fleet) done }
 {
-    let size = fleet.size();
-    let mut next = NEVER;
-    let mut i = 0;
-    while i < size {
-        let tablet = fleet.tablets[i];
-        let turn = next_turn(tablet.period, done);
-        if turn < next {
-            next = turn;
-        }
-        i += 1;
-    }
-    next
+    fleet.as_slice().iter().fold(
+        NEVER,
+        |next, tablet| next.min(next_turn(tablet.period, done)),
+    )
 }
 
 // One round: the tablets whose period divides it act by rising number.
 fn take_round(image: &mut [u8], mut fleet: Fleet, round: u32) -> Fleet
     ensures { depot_of result image.new ≡ after_turns (depot_of fleet image.old) (turns_from round 0 (tablets_of fleet)) }
 {
-    let size = fleet.size();
-    let mut i = 0;
-    while i < size {
-        let tablet = fleet.tablets[i];
+    for number in 0..fleet.size() {
+        let tablet = fleet.tablets[number];
         if divides(tablet.period, round) {
-            fleet.tablets[i] = act(image, round, i as u32, tablet);
+            fleet.tablets[number] = act(image, round, number as u32, tablet);
         }
-        i += 1;
     }
     fleet
 }
@@ -98,6 +92,7 @@ pub fn run(image: &mut [u8], mut fleet: Fleet, done: u32, rounds: u32) -> Fleet
     ensures { depot_of result image.new ≡ after_rounds done rounds (depot_of fleet image.old) }
 {
     let mut next = next_round(fleet, done);
+    // The rounds that nobody acts in are passed over, so that no `for` counts these.
     while next <= rounds as u64 {
         let round = next as u32;
         fleet = take_round(image, fleet, round);

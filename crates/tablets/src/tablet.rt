@@ -1,6 +1,6 @@
 // A tablet, what its acts came to, and the nonces that it asks with.
 ghost use Rattle.std.specs.Prelude.{◌≡◌};
-ghost use Rattle.tablets.specs.Tablet.{adopting, blank, one_more, nonce_for, refused_full, refused_stale, succeeded};
+ghost use Rattle.tablets.specs.Tablet.{adopting, blank, nonce_for, refused_full, refused_stale, succeeded};
 
 use forms::nonce;
 use forms::nonce::Nonce;
@@ -28,13 +28,6 @@ pub(crate) const RAISE: u32 = 1;
 
 pub(crate) const PROOF: u32 = 2;
 
-// One more, as far as a number of 32 bits goes.
-fn counted(n: u32) -> u32
-    ensures { result ≡ one_more n }
-{
-    if n < u32::MAX { n + 1 } else { n }
-}
-
 impl Tablet {
     // One that has not acted.
     pub fn new(id: CounterId, period: u32, belief: u32) -> Self
@@ -55,7 +48,7 @@ impl Tablet {
         ensures { result ≡ succeeded self clock }
     {
         self.belief = clock;
-        self.raises = counted(self.raises);
+        self.raises = self.raises.saturating_add(1);
         self
     }
 
@@ -63,7 +56,7 @@ impl Tablet {
     pub(crate) fn refused_stale(mut self) -> Self
         ensures { result ≡ refused_stale self }
     {
-        self.stale = counted(self.stale);
+        self.stale = self.stale.saturating_add(1);
         self
     }
 
@@ -71,7 +64,7 @@ impl Tablet {
     pub(crate) fn refused_full(mut self) -> Self
         ensures { result ≡ refused_full self }
     {
-        self.full = counted(self.full);
+        self.full = self.full.saturating_add(1);
         self
     }
 

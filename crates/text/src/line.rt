@@ -12,14 +12,12 @@ const DIGITS: usize = 20;
 const FIGURE: usize = 11;
 
 // Ruled out, among others: a writer that stores the words for which there is room; one that answers the place behind words that it did not store.
+#[tactic(auto, unfolding(crate::specs::Line::stored_end, forms::specs::Bytes::overwrite))]
 pub fn put_words(text: &mut [u8], at: usize, words: &[u8]) -> usize
     ensures value { result ≡ stored_end text.old at words.now }
     ensures text_after { text.new ≡ overwrite text.old at words.now }
 {
-    if text.len() < at {
-        return at;
-    }
-    if text.len() - at < words.len() {
+    if text.len() < at || text.len() - at < words.len() {
         return at;
     }
     put(text, at, words);
@@ -50,18 +48,6 @@ pub fn put_figure(text: &mut [u8], at: usize, figure: u32) -> usize
     put_words(text, at, &digits[..end])
 }
 
-// Stores the figure at a place of some, where there is one.
-fn put_figure_of(text: &mut [u8], at: usize, figures: &[u32], place: usize) -> usize
-    ensures value { result ≡ stored_end text.old at (figure_at figures.now place) }
-    ensures text_after { text.new ≡ overwrite text.old at (figure_at figures.now place) }
-{
-    if place < figures.len() {
-        put_figure(text, at, figures[place])
-    } else {
-        at
-    }
-}
-
 // Stores words, and for each `#` in them the next figure, behind a space.
 //
 // Ruled out, among others: a writer that stores the `#` as well; one that begins again with the first figure where there are no more.
@@ -70,16 +56,13 @@ pub fn put_filled(text: &mut [u8], at: usize, words: &[u8], figures: &[u32]) -> 
     ensures text_after { text.new ≡ (filled_in text.old at words.now figures.now).text }
 {
     let mut end = at;
-    let mut asked: usize = 0;
-    let mut i = 0;
-    while i < words.len() {
-        if words[i] == b'#' {
-            end = put_figure_of(text, end, figures, asked);
-            asked += 1;
-        } else {
-            end = put_words(text, end, &[words[i]]);
+    let mut left = figures.iter();
+    for &byte in words {
+        if byte != b'#' {
+            end = put_words(text, end, &[byte]);
+        } else if let Some(figure) = left.next() {
+            end = put_figure(text, end, *figure);
         }
-        i += 1;
     }
     end
 }

@@ -1,9 +1,11 @@
 -- The validity proof's form: document 01, "Proof form", with the entries of document 02's Note 7. What bytes read as, what is written from fields, and
 -- the numbers of the refusals.
 -- Assumes nothing.
-use Rattle.std.specs.Prelude.{ℕ, ◌+◌, Bool, false, cond, not, ◌&&◌, ◌||◌, List, [], ◌∷◌, ◌++◌, eqb, ltb, length, drop}
+use Rattle.std.specs.Prelude.{ℕ, ◌+◌, Bool, false, cond, not, ◌&&◌, ◌||◌, List, [], ◌∷◌, ◌++◌, eqb, ltb, length, drop, Ok, Err, Result, Some, None, Option}
 use Rattle.forms.specs.Limits.{confirmation_len, certificate_len, max_units, proof_form, proof_header_len}
 use Rattle.forms.specs.Log.{ends_at, overfull, walk}
+use Rattle.forms.specs.declared.log.WalkError.{WalkError}
+use Rattle.forms.specs.declared.refusal.Refusal.{Refusal}
 use Rattle.forms.specs.Number.{be16, be32, digits}
 use Rattle.forms.specs.Checks.{◌gives◌, first_answer}
 use Rattle.forms.specs.Confirmation.{confirmation_at, confirmation_bytes}
@@ -12,8 +14,9 @@ use Rattle.forms.specs.Certificate.{certificate_at, certificate_bytes}
 use Rattle.forms.specs.declared.certificate.Certificate.{Certificate}
 pub use Rattle.validity.specs.declared.proof.Kind.{Kind}
 pub use Rattle.validity.specs.declared.proof.Proof.{Proof}
-pub use Rattle.validity.specs.declared.proof.Parsed.{Parsed}
-pub use Rattle.validity.specs.declared.writing.Written.{Written}
+pub use Rattle.validity.specs.declared.proof.ParseError.{ParseError}
+pub use Rattle.validity.specs.declared.proof.UnknownKind.{UnknownKind}
+pub use Rattle.validity.specs.declared.writing.WriteError.{WriteError}
 
 -- ---- layout
 
@@ -28,6 +31,10 @@ known_kind n = eqb n 1 || eqb n 2
 -- the kind of a known number
 abbrev pub kind_of : ℕ → Kind
 kind_of n = cond (eqb n 1) Kind.Read Kind.Increment
+
+-- that kind, or the number that is unknown
+abbrev pub kind_or_unknown : ℕ → Result Kind UnknownKind
+kind_or_unknown n = cond (known_kind n) (Ok (kind_of n)) (Err (record { 0 = n }))
 
 -- "offset of confirmation = 24"
 abbrev pub confirmation_offset : ℕ
@@ -48,6 +55,10 @@ log_offset Kind.Increment = confirmation_offset + confirmation_len
 -- check 3: form 2, and kind 1 or 2
 abbrev pub known_form : List ℕ → Bool
 known_form s = eqb (be16 s 0) proof_form && known_kind (be16 s 2)
+
+-- the kind that the header gives, where the form and the kind are known
+abbrev pub kind_at : List ℕ → Option Kind
+kind_at s = cond (known_form s) (Some (kind_of (be16 s 2))) None
 
 -- the kind and the count n that the header gives
 abbrev pub shape_at : List ℕ → Proof
@@ -75,25 +86,41 @@ proof_laid_out s p =
     && (eqb (be32 s 12) (certificate_offset p.kind)
     && eqb (be32 s 16) (log_offset p.kind))))
 
+-- what bytes read as
+abbrev pub Parsed : Type 0
+Parsed = Result Proof ParseError
+
+-- why bytes are no proof whose walk comes to no end
+abbrev pub unread_for : WalkError → ParseError
+unread_for WalkError.TooMany = ParseError.BadCount
+unread_for WalkError.Cut = ParseError.BadLayout
+
 -- what bytes read as: checks 2 to 5 in their order
 unfoldable pub parsed : List ℕ → Parsed
 parsed s =
     first_answer
-    ((ltb (length s) proof_header_len gives Parsed.TooShort)
-    ∷ (not (known_form s) gives Parsed.UnknownForm)
-    ∷ (miscounted (shape_at s) gives Parsed.BadCount)
-    ∷ (overcounted s (log_offset (shape_at s).kind) (shape_at s).count gives Parsed.BadCount)
-    ∷ (not (proof_laid_out s (shape_at s)) gives Parsed.BadLayout)
+    ((ltb (length s) proof_header_len gives (Err ParseError.TooShort))
+    ∷ (not (known_form s) gives (Err ParseError.UnknownForm))
+    ∷ (miscounted (shape_at s) gives (Err ParseError.BadCount))
+    ∷ (overcounted s (log_offset (shape_at s).kind) (shape_at s).count gives (Err ParseError.BadCount))
+    ∷ (not (proof_laid_out s (shape_at s)) gives (Err ParseError.BadLayout))
     ∷ [])
-    (Parsed.Proof (shape_at s))
+    (Ok (shape_at s))
 
 -- document 01's number for each answer of reading; 0: bytes that read as a proof
 abbrev pub read_number : Parsed → ℕ
-read_number Parsed.TooShort = 2
-read_number Parsed.UnknownForm = 3
-read_number Parsed.BadCount = 4
-read_number Parsed.BadLayout = 5
-read_number (Parsed.Proof p) = 0
+read_number (Err ParseError.TooShort) = 2
+read_number (Err ParseError.UnknownForm) = 3
+read_number (Err ParseError.BadCount) = 4
+read_number (Err ParseError.BadLayout) = 5
+read_number (Ok p) = 0
+
+-- the refusal by that number
+abbrev pub refusal_of : ParseError → Refusal
+refusal_of ParseError.TooShort = Refusal.TooShort
+refusal_of ParseError.UnknownForm = Refusal.UnknownForm
+refusal_of ParseError.BadCount = Refusal.BadCount
+refusal_of ParseError.BadLayout = Refusal.BadLayout
 
 -- ---- fields
 
@@ -150,39 +177,49 @@ proof_fields s =
 
 -- ---- writing
 
+-- what writing answers: a length, or why nothing is written
+abbrev pub Written : Type 0
+Written = Result ℕ WriteError
+
+-- why fields are not written over whose entries the walk comes to no end
+abbrev pub unwritten_for : WalkError → WriteError
+unwritten_for WalkError.TooMany = WriteError.BadCount
+unwritten_for WalkError.Cut = WriteError.BadEntries
+
 -- what writing from fields answers: 3, 4, 5 (the entry bytes are not exactly n entries), then 26 (the output is too short)
 unfoldable pub written : ℕ → ℕ → List ℕ → ℕ → Written
 written kind count entries room =
     let p : Proof = record { kind = kind_of kind; count = count } in
     let len : ℕ = log_offset (kind_of kind) + length entries in
     first_answer
-    ((not (known_kind kind) gives Written.UnknownKind)
-    ∷ (miscounted p gives Written.BadCount)
-    ∷ (overcounted entries 0 count gives Written.BadCount)
-    ∷ (not (ends_at (walk entries 0 count) (length entries)) gives Written.BadEntries)
-    ∷ (ltb room len gives Written.NoRoom)
+    ((not (known_kind kind) gives (Err WriteError.UnknownKind))
+    ∷ (miscounted p gives (Err WriteError.BadCount))
+    ∷ (overcounted entries 0 count gives (Err WriteError.BadCount))
+    ∷ (not (ends_at (walk entries 0 count) (length entries)) gives (Err WriteError.BadEntries))
+    ∷ (ltb room len gives (Err WriteError.NoRoom))
     ∷ [])
-    (Written.Length len)
+    (Ok len)
 
 -- document 01's number and value for each answer of writing
 abbrev pub write_number : Written → ℕ
-write_number Written.UnknownKind = 3
-write_number Written.BadCount = 4
-write_number Written.BadEntries = 5
-write_number Written.NoRoom = 26
-write_number (Written.Length n) = 0
+write_number (Err WriteError.UnknownKind) = 3
+write_number (Err WriteError.BadCount) = 4
+write_number (Err WriteError.BadEntries) = 5
+write_number (Err WriteError.NoRoom) = 26
+write_number (Ok n) = 0
+
+-- the refusal by that number
+abbrev pub write_refusal_of : WriteError → Refusal
+write_refusal_of WriteError.UnknownKind = Refusal.UnknownForm
+write_refusal_of WriteError.BadCount = Refusal.BadCount
+write_refusal_of WriteError.BadEntries = Refusal.BadLayout
+write_refusal_of WriteError.NoRoom = Refusal.NoRoom
 
 abbrev pub write_value : Written → ℕ
-write_value Written.UnknownKind = 0
-write_value Written.BadCount = 0
-write_value Written.BadEntries = 0
-write_value Written.NoRoom = 0
-write_value (Written.Length n) = n
+write_value (Err e) = 0
+write_value (Ok n) = n
 
 -- the output after writing: the proof followed by the rest of the old output, or the old output where the fields are refused
 unfoldable pub output_after : Written → Fields → List ℕ → List ℕ
-output_after Written.UnknownKind fields out = out
-output_after Written.BadCount fields out = out
-output_after Written.BadEntries fields out = out
-output_after Written.NoRoom fields out = out
-output_after (Written.Length n) fields out = proof_bytes fields ++ drop n out
+output_after (Err e) fields out = out
+output_after (Ok n) fields out = proof_bytes fields ++ drop n out

@@ -12,5 +12,5 @@ use forms::terms::CounterId;
 pub fn vmc_desk_verify(proof: &[u8], verdicts: &[u8], id: u32, nonce: &[u8]) -> Figures
     ensures { result ≡ figures (verified proof.now verdicts.now (counter_id id) nonce.now) }
 {
-    verify(proof, verdicts, CounterId(id), nonce).figures()
+    verify(proof, verdicts, CounterId(id), nonce).into()
 }

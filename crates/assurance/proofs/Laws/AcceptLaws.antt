@@ -1,6 +1,7 @@
 -- Fields of either kind that the desk accepts once they are written: the counter's confirmation, the entries after it, one for each reading,
 -- that chain, and a close with the wanted nonce. Assumes nothing.
-use Rattle.std.specs.Prelude.{ℕ, suc, ◌+◌, ◌^◌, ◌≤◌, ◌<◌, ◌≡◌, Bool, true, false, ◌&&◌, ◌||◌, List, [], ◌∷◌, ◌++◌, drop, get_or, refl, not, length}
+use Rattle.std.specs.Prelude.{ℕ, suc, ◌+◌, ◌^◌, ◌≤◌, ◌<◌, ◌≡◌, Bool, true, false, ◌&&◌, ◌||◌, List, [], ◌∷◌, ◌++◌, drop, get_or, refl, not, length, Ok}
+use Rattle.desk_table.specs.Answer.{shows}
 use Rattle.std.proofs.Common.{sym, ap₂, subst, ◌∙◌, append-nil, arith, drop_at, eq-eqb, ne_eqb, ap, length-append}
 use Rattle.forms.specs.Bytes.{same, window}
 use Rattle.forms.specs.Laws.BytesLaws.{same_refl, window-whole}
@@ -10,20 +11,17 @@ use Rattle.forms.specs.Confirmation.{confirmation_bytes, ConfirmationFits}
 use Rattle.forms.specs.Entry.{Entry, entry_at, entries_at, offset_at, log_bytes, units}
 use Rattle.forms.specs.Laws.EntryLaws.{EntriesFit, entries-drop, entries-snoc, length-entries, log-bytes}
 use Rattle.forms.specs.Limits.{nonce_len, max_units}
-use Rattle.forms.specs.Log.{ends_at, walk}
+use Rattle.forms.specs.Log.{ends_at, walk, Walked}
 use Rattle.forms.specs.Laws.LogLaws.{Counted, walk-bytes}
 use Rattle.forms.specs.Request.{names, nonce_of}
 use Rattle.forms.specs.declared.certificate.Certificate.{Certificate}
 use Rattle.forms.specs.declared.confirmation.Confirmation.{Confirmation}
-use Rattle.forms.specs.declared.log.Walked.{Walked}
 use Rattle.forms.specs.declared.terms.CounterId.{CounterId}
 use Rattle.validity.specs.Proof.{Fields, read, increment, fields_len, proof_bytes, proof_fields, header_of, header_bytes, parsed, log_offset}
 use Rattle.validity.specs.Laws.ProofLaws.{parsed-ends}
 use Rattle.validity.specs.Laws.RoundTrip.{Taken, Takes, decode-encode, encode-reads}
 use Rattle.validity.specs.declared.proof.Kind.{Kind}
-use Rattle.validity.specs.declared.proof.Parsed.{Parsed}
 use Rattle.validity.specs.declared.proof.Proof.{Proof}
-use Rattle.desk_table.specs.declared.answer.Answer.{Answer}
 use Rattle.desk_table.specs.Desk.{confirmation, certificate, entry, verdicts_before, verdicts_for, all_yes, is_own, bad_wanted, closes_elsewhere, wrong_closing, closing, verified}
 use Rattle.desk.specs.Laws.LogVerdictsLaws.{verdicts-counted}
 use Rattle.log_image.specs.Laws.ImageParts.{entries-units}
@@ -147,22 +145,22 @@ module _ (id : CounterId) (nonce : List ℕ) (c : Confirmation) (es : List Entry
 
   -- and what the desk answers to them
   back-accepted : (kind : Kind) (s : List ℕ) → confirmation s ≡ c → entries_at s (log_offset kind) (length es) ≡ es
-      → parsed s ≡ Parsed.Proof (record { kind = kind; count = length es })
+      → parsed s ≡ Ok (record { kind = kind; count = length es })
       → closes_elsewhere (record { kind = kind; count = length es }) s (yes_to kind (length es) s) id nonce ≡ false
       → wrong_closing (record { kind = kind; count = length es }) s ≡ false
       → verified s (ones (verdicts_for kind (length s))) id nonce
-      ≡ Answer.Accepted (running_after id (from_value c.value) es) (closing (record { kind = kind; count = length es }) s)
+      ≡ shows (running_after id (from_value c.value) es) (closing (record { kind = kind; count = length es }) s)
   back-accepted kind s confirms entries reads ends closes =
       let p : Proof = record { kind = kind; count = length es } in
       ap (λ (m : ℕ). verified s (ones m) id nonce) (verdicts-counted p s (parsed-ends s p reads))
       ∙ clean-verified kind (length es) s id nonce (back-clean kind s confirms entries ends closes) (wanted-passes id nonce wanted) reads
-      ∙ ap₂ (λ (k : Confirmation) (l : List Entry). Answer.Accepted (running_after id (from_value k.value) l) (closing (record { kind = kind; count = length es }) s))
+      ∙ ap₂ (λ (k : Confirmation) (l : List Entry). shows (running_after id (from_value k.value) l) (closing (record { kind = kind; count = length es }) s))
       confirms entries
 
   -- a proof of kind 1, up to the certificate's reading
   pub read-accepted : (k : Certificate) → k.nonce ≡ nonce → k.reading.0 ≡ c.reading.0 + length es → k.reading.0 < 2 ^ 32
       → verified (proof_bytes (read c k (length es) (log_bytes es))) (all_yes (read c k (length es) (log_bytes es))) id nonce
-      ≡ Answer.Accepted (running_after id (from_value c.value) es) k.reading
+      ≡ shows (running_after id (from_value c.value) es) k.reading
   unfolding closes_elsewhere wrong_closing closing
   read-accepted k asked reached fits =
       let fields : Fields = read c k (length es) (log_bytes es) in
@@ -175,12 +173,12 @@ module _ (id : CounterId) (nonce : List ℕ) (c : Confirmation) (es : List Entry
       (ap not (nonce-same (certificate s).nonce nonce wanted.long (ap (λ (j : Certificate). j.nonce) back.1 ∙ asked)))
       (ap not (eq-eqb (certificate s).reading.0 ((confirmation s).reading.0 + length es)
       (ap (λ (j : Certificate). j.reading.0) back.1 ∙ reached ∙ ap (λ (j : Confirmation). j.reading.0 + length es) (sym back.0))))
-      ∙ ap (λ (j : Certificate). Answer.Accepted (running_after id (from_value c.value) es) j.reading) back.1
+      ∙ ap (λ (j : Certificate). shows (running_after id (from_value c.value) es) j.reading) back.1
 
   -- a proof of kind 2, up to the last entry's reading
   pub increment-accepted : (front : List Entry) (last : Entry) → es ≡ front ++ (last ∷ []) → names id last.requests ≡ true → nonce_of id last.requests ≡ nonce
       → verified (proof_bytes (increment c (length es) (log_bytes es))) (all_yes (increment c (length es) (log_bytes es))) id nonce
-      ≡ Answer.Accepted (running_after id (from_value c.value) es) last.reading
+      ≡ shows (running_after id (from_value c.value) es) last.reading
   unfolding closes_elsewhere wrong_closing closing is_own
   increment-accepted front last ends own asked =
       let fields : Fields = increment c (length es) (log_bytes es) in
@@ -197,4 +195,4 @@ module _ (id : CounterId) (nonce : List ℕ) (c : Confirmation) (es : List Entry
       (ones-own s log (verdicts_before Kind.Increment) (length es) id (length es) some (omega arith) ∙ ap (λ (e : Entry). names id e.requests) end ∙ own)
       (nonce-same (nonce_of id (entry s log (length es)).requests) nonce wanted.long (ap (λ (e : Entry). nonce_of id e.requests) end ∙ asked)))
       refl
-      ∙ ap (λ (e : Entry). Answer.Accepted (running_after id (from_value c.value) es) e.reading) end
+      ∙ ap (λ (e : Entry). shows (running_after id (from_value c.value) es) e.reading) end

@@ -1,6 +1,7 @@
 -- When the desk accepts bytes that read as a proof: every verdict is yes, and what is left of its table passes. The converse of what number 0
 -- shows (`Accepted`). Assumes nothing.
-use Rattle.std.specs.Prelude.{◌≡◌, Bool, true, false, cond, ◌&&◌, ◌||◌, eqb, length, get_or, replicate, ℕ, zero, suc, ◌+◌, ◌-◌, ◌≤◌, ◌<◌, refl, not, List, [], ◌∷◌}
+use Rattle.std.specs.Prelude.{◌≡◌, Bool, true, false, cond, ◌&&◌, ◌||◌, eqb, length, get_or, replicate, ℕ, zero, suc, ◌+◌, ◌-◌, ◌≤◌, ◌<◌, refl, not, List, [], ◌∷◌, Ok}
+use Rattle.desk_table.specs.Answer.{Answer, shows, refuses}
 use Rattle.std.proofs.Common.{subst, ◌∙◌, sym, ap, ap₂, arith, eqb-true, eq-eqb, le-ltb, ltb-true}
 use Rattle.std.proofs.lemmas.Bool.{not-true}
 use Rattle.std.proofs.Math.Decide.{dec_le}
@@ -18,11 +19,9 @@ use Rattle.forms.specs.Terms.{counter_id}
 use Rattle.forms.specs.declared.running.Running.{Running}
 use Rattle.forms.specs.declared.terms.CounterId.{CounterId}
 use Rattle.digest.specs.Seal.{is_sealed}
-use Rattle.validity.specs.Proof.{parsed, log_offset}
+use Rattle.validity.specs.Proof.{parsed, log_offset, Parsed}
 use Rattle.validity.specs.declared.proof.Kind.{Kind}
-use Rattle.validity.specs.declared.proof.Parsed.{Parsed}
 use Rattle.validity.specs.declared.proof.Proof.{Proof}
-use Rattle.desk_table.specs.declared.answer.Answer.{Answer}
 use Rattle.desk_table.specs.Desk.{confirmation, entry, verdicts_before, verdicts_to, verdict_count, zero_or_one, is_own, running_to, bad_wanted, bad_verdicts, bad_confirmation, certificate_denied, module_denied, forged, repeated, closes_elsewhere, wrong_reading, wrong_closing, breaks_chain, closing, later_checks, accepted, judged, verified}
 use Rattle.desk_table.proofs.Laws.DeskLaws.{answer_of, verified-parsed}
 use Rattle.desk_table.specs.Lowest.{lowest}
@@ -258,7 +257,7 @@ module _ (kind : Kind) (n : ℕ) (s : List ℕ) (id : CounterId) (nonce : List �
   -- what is shown: running value and count along all entries, and the closing reading
   abbrev pub shown_of : Answer
   shown_of =
-      Answer.Accepted (running_after id (from_value (confirmation s).value) (entries_at s (log_offset kind) n)) (closing (record { kind = kind; count = n }) s)
+      shows (running_after id (from_value (confirmation s).value) (entries_at s (log_offset kind) n)) (closing (record { kind = kind; count = n }) s)
 
   -- checks 6 to 13 pass, and the answer is the one behind them
   clean-accepted : judged (record { kind = kind; count = n }) s (yes_to kind n s) id nonce ≡ shown_of
@@ -282,13 +281,13 @@ module _ (kind : Kind) (n : ℕ) (s : List ℕ) (id : CounterId) (nonce : List �
       then clean.closes
       then clear-passed (breaks_chain s log verdicts before id (confirmation s).value) n chain-clear
       then end)
-      ∙ ap (λ (r : Running). Answer.Accepted r (closing p s)) (ones-running s log before n id (confirmation s).value n (omega arith))
+      ∙ ap (λ (r : Running). shows r (closing p s)) (ones-running s log before n id (confirmation s).value n (omega arith))
 
   -- the desk accepts such bytes
-  pub clean-verified : bad_wanted id nonce ≡ false → parsed s ≡ Parsed.Proof (record { kind = kind; count = n })
+  pub clean-verified : bad_wanted id nonce ≡ false → parsed s ≡ Ok (record { kind = kind; count = n })
       → verified s (yes_to kind n s) id nonce ≡ shown_of
   clean-verified wanted reads =
       let judge : Proof → Answer = λ p. judged p s (yes_to kind n s) id nonce in
       verified-parsed s (yes_to kind n s) id nonce
-      ∙ ap₂ (λ (held : Bool) (r : Parsed). cond held (Answer.Refused 1 0) (answer_of judge r)) wanted reads
+      ∙ ap₂ (λ (held : Bool) (r : Parsed). cond held (refuses 1 0) (answer_of judge r)) wanted reads
       ∙ clean-accepted

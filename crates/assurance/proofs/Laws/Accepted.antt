@@ -1,6 +1,6 @@
 -- What an accepted call has shown: number 0 means that no row of the desk's table held, and here is what that says of the proof, of its
 -- verdicts, and of the value, the openings and the closing reading. Assumes nothing.
-use Rattle.std.specs.Prelude.{ℕ, ◌+◌, ◌-◌, ◌≤◌, ◌≡◌, Bool, true, false, cond, length, get_or, refl}
+use Rattle.std.specs.Prelude.{ℕ, ◌+◌, ◌-◌, ◌≤◌, ◌≡◌, Bool, true, false, cond, length, get_or, refl, Ok, Err}
 use Rattle.std.proofs.Common.{sym, ap, ◌∙◌}
 use Rattle.forms.specs.Chain.{follows_by}
 use Rattle.forms.specs.declared.running.Running.{Running}
@@ -8,13 +8,12 @@ use Rattle.forms.specs.Limits.{nonce_len}
 use Rattle.forms.specs.Request.{names, before_of, nonce_of, names_twice}
 use Rattle.forms.specs.Terms.{global_clock}
 use Rattle.digest.specs.Seal.{is_sealed}
-use Rattle.validity.specs.Proof.{shape_at, log_offset, parsed, read_number}
+use Rattle.validity.specs.Proof.{shape_at, log_offset, parsed, read_number, Parsed}
+use Rattle.validity.specs.declared.proof.ParseError.{ParseError}
 use Rattle.validity.specs.Laws.ProofLaws.{Reads, parsed-reads, reads-parsed}
 use Rattle.validity.specs.declared.proof.Kind.{Kind}
-use Rattle.validity.specs.declared.proof.Parsed.{Parsed}
 use Rattle.validity.specs.declared.proof.Proof.{Proof}
-use Rattle.desk_table.specs.Answer.{figures}
-use Rattle.desk_table.specs.declared.answer.Answer.{Answer}
+use Rattle.desk_table.specs.Answer.{figures, Answer, refuses}
 use Rattle.desk_table.specs.Desk.{confirmation, certificate, verdicts_before, verdict_count, is_own, running_to, bad_wanted, module_denied, forged, repeated, wrong_reading, breaks_chain, later_checks, accepted, judged, verified}
 use Rattle.desk_table.proofs.Laws.DeskLaws.{answer_of, verified-parsed}
 use Rattle.desk_table.proofs.Laws.LowestLaws.{lowest-clear}
@@ -75,11 +74,11 @@ pub record Passed (c : Call) : Type 0 where
 
 -- an answer with number 0 was given to bytes that read as a proof
 judged-read : (judge : Proof → Answer) (r : Parsed) → (figures (answer_of judge r)).number ≡ 0 → read_number r ≡ 0
-judged-read judge Parsed.TooShort accepted-too = accepted-too
-judged-read judge Parsed.UnknownForm accepted-too = accepted-too
-judged-read judge Parsed.BadCount accepted-too = accepted-too
-judged-read judge Parsed.BadLayout accepted-too = accepted-too
-judged-read judge (Parsed.Proof p) accepted-too = refl
+judged-read judge (Err ParseError.TooShort) accepted-too = accepted-too
+judged-read judge (Err ParseError.UnknownForm) accepted-too = accepted-too
+judged-read judge (Err ParseError.BadCount) accepted-too = accepted-too
+judged-read judge (Err ParseError.BadLayout) accepted-too = accepted-too
+judged-read judge (Ok p) accepted-too = refl
 
 -- what checks 1 to 5 leave of an accepted call: its proof reads, and the answer is that of judging it
 record Begun (c : Call) : Type 0 where
@@ -92,7 +91,7 @@ begun : (c : Call) → Accepted c → Begun c
 begun c is-accepted =
     let judge : Proof → Answer = λ p. judged p c.proof c.verdicts c.id c.nonce in
     let whole = verified-parsed c.proof c.verdicts c.id c.nonce in
-    let one = refusal-passed (bad_wanted c.id c.nonce) (Answer.Refused 1 0) (answer_of judge (parsed c.proof)) refl
+    let one = refusal-passed (bad_wanted c.id c.nonce) (refuses 1 0) (answer_of judge (parsed c.proof)) refl
     (ap (λ (a : Answer). (figures a).number) (sym whole) ∙ is-accepted)
     in
     let reads = parsed-reads c.proof (judged-read judge (parsed c.proof) one.1) in
@@ -101,7 +100,7 @@ begun c is-accepted =
       reads = reads;
       answer =
           whole
-          ∙ ap (λ (held : Bool). cond held (Answer.Refused 1 0) (answer_of judge (parsed c.proof))) one.0
+          ∙ ap (λ (held : Bool). cond held (refuses 1 0) (answer_of judge (parsed c.proof))) one.0
           ∙ ap (answer_of judge) (reads-parsed c.proof reads);
     }
 

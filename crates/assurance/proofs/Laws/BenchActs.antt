@@ -2,6 +2,7 @@
 -- counter has its current value as before, and where the tablet's counter is held the tablet believes its current value afterwards. Document 02,
 -- Note 8: "which a success makes the new clock; on 22 it proves, has the desk judge, confirms and adopts the value". Assumes nothing.
 use Rattle.std.specs.Prelude.{ℕ, ◌+◌, ◌-◌, ◌^◌, ◌≤◌, ◌<◌, ◌≡◌, Bool, List, [], ◌∷◌, eqb, ltb, length, refl, true, false, cond}
+use Rattle.desk_table.specs.Answer.{Answer, shows}
 use Rattle.std.proofs.Common.{sym, ap₂, ◌∙◌, arith, eqb-true, eq-eqb, ne_eqb, le-ltb, ap, subst}
 use Rattle.std.proofs.lemmas.Bool.{false≢true, eqb-false}
 use Rattle.forms.specs.Bytes.{Bytes}
@@ -17,7 +18,6 @@ use Rattle.forms.specs.declared.terms.CounterId.{CounterId}
 use Rattle.validity.specs.Proof.{Fields, fields_len}
 use Rattle.validity.specs.declared.proof.Kind.{Kind}
 use Rattle.desk_table.specs.Desk.{all_yes, verified}
-use Rattle.desk_table.specs.declared.answer.Answer.{Answer}
 use Rattle.log_image.specs.Laws.FitLaws.{entries-fit-drop, units-drop}
 use Rattle.log_image.specs.Laws.ImageRoundTrip.{decode-encode}
 use Rattle.log_image.specs.Laws.LookupLaws.{zero-unheld}
@@ -155,7 +155,7 @@ module _ (s : List ℕ) (kept : Kept s) (id : CounterId) (id-fits : id.0 < 2 ^ 3
   prove-done = ap (λ (r : Settled). r.figures) (settled-done s _ (fields_len fields) (counted st id) kept.is-sound prove-passes)
 
   -- and the desk accepts, showing the current value at the clock
-  pub proof-accepted : judged_for s nonce id ≡ Answer.Accepted (running_of st id) st.clock
+  pub proof-accepted : judged_for s nonce id ≡ shows (running_of st id) st.clock
   proof-accepted =
       let len : ℕ = (prove_call s nonce id (length empty_output)).figures.value in
       let value : len ≡ fields_len fields = ap (λ f. f.value) prove-done in

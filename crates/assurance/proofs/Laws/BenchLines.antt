@@ -1,6 +1,6 @@
 -- The claim of BenchInput.antt, proved along an input's lines: what each line prints where the bench stands, which tablets it adds, and that every
 -- input has its course. Figures that the grammar reads fit 32 bits, so that the bench's claim is about every input. Assumes nothing.
-use Rattle.std.specs.Prelude.{◌≡◌, Bool, true, false, cond, ◌||◌, ◌⊎◌, eqb, length, replicate, ℕ, zero, suc, ◌+◌, ◌-◌, ◌^◌, ◌<◌, refl, List, [], ◌∷◌, ◌++◌}
+use Rattle.std.specs.Prelude.{◌≡◌, Bool, true, false, cond, ◌||◌, ◌⊎◌, eqb, length, replicate, ℕ, zero, suc, ◌+◌, ◌-◌, ◌^◌, ◌<◌, refl, List, [], ◌∷◌, ◌++◌, Option, Some, None}
 use Rattle.std.proofs.Common.{subst, ◌∙◌, inl, inr, length-append, sym, ap, append_assoc, append-nil, arith}
 use mathlib.Core.List.{flatten, foldl, foldl-append}
 use Rattle.std.proofs.lemmas.List.{length-replicate}
@@ -39,11 +39,11 @@ choice-fits : (t : Bool) (x y : Order) → OrderFits x → OrderFits y → Order
 choice-fits true x y fits others = fits
 choice-fits false x y fits others = others
 
-named-fits : (name : List ℕ) (a : Arguments) → ArgumentsFit a → OrderFits (order_named name a)
-named-fits name (Arguments.One a) fits = choice-fits (same name start_name) _ _ fits (choice-fits (same name run_name) (Order.Run a) Order.Other tt tt)
-named-fits name (Arguments.Two a b) fits = tt
-named-fits name (Arguments.Three a b c) fits = choice-fits (same name tablet_name) _ Order.Other (fits.0, fits.2) tt
-named-fits name Arguments.Bad fits = tt
+named-fits : (name : List ℕ) (a : Option Arguments) → ArgumentsFit a → OrderFits (order_named name a)
+named-fits name (Some (Arguments.One a)) fits = choice-fits (same name start_name) _ _ fits (choice-fits (same name run_name) (Order.Run a) Order.Other tt tt)
+named-fits name (Some (Arguments.Two a b)) fits = tt
+named-fits name (Some (Arguments.Three a b c)) fits = choice-fits (same name tablet_name) _ Order.Other (fits.0, fits.2) tt
+named-fits name None fits = tt
 
 words-fit : (ws : List (List ℕ)) → OrderFits (order_by ws)
 words-fit [] = tt

@@ -2,6 +2,7 @@
 -- shows value and openings that `read` gives on that image or, for `last`, the t asked for and the number of the counter's entries up to it.
 -- Document 01, "The host". Assumes nothing.
 use Rattle.std.specs.Prelude.{ℕ, ◌^◌, ◌<◌, ◌≡◌, Bool, true, not, cond, List}
+use Rattle.desk_table.specs.Answer.{shows}
 use Rattle.std.proofs.Common.{sym, ap, ap₂, ◌∙◌, ne_eqb}
 use Rattle.forms.specs.Bytes.{Bytes}
 use Rattle.forms.specs.Laws.TestsLaws.{both}
@@ -9,7 +10,6 @@ use Rattle.forms.specs.declared.running.Running.{Running}
 use Rattle.forms.specs.declared.terms.CounterId.{CounterId}
 use Rattle.forms.specs.declared.terms.GlobalClock.{GlobalClock}
 use Rattle.validity.specs.Proof.{proof_bytes, fields_len}
-use Rattle.desk_table.specs.declared.answer.Answer.{Answer}
 use Rattle.desk_table.specs.Desk.{all_yes, verified}
 use Rattle.log_image.specs.Laws.ImageRoundTrip.{StateFits, decode-fits}
 use Rattle.log_image.specs.State.{State, decode}
@@ -46,7 +46,7 @@ module _ (s : List ℕ) (bytes : Bytes s) (id : CounterId) (id-fits : id.0 < 2 ^
   pub prove-call-accepted : (nonce : List ℕ) (room : ℕ) → (prove_call s nonce id room).figures.number ≡ 0
       → ((read_call s id).number ≡ 0)
       × (verified (proof_bytes (proof_of (decode s) nonce id)) (all_yes (proof_of (decode s) nonce id)) id nonce
-      ≡ Answer.Accepted (read_running s id) (decode s).clock)
+      ≡ shows (read_running s id) (decode s).clock)
   prove-call-accepted nonce room e =
       let st : State = decode s in
       let len : ℕ = fields_len (proof_of st nonce id) in
@@ -56,13 +56,13 @@ module _ (s : List ℕ) (bytes : Bytes s) (id : CounterId) (id-fits : id.0 < 2 ^
       let given = read-answers passed.0 rows.named rows.held in (
         given.0,
         prove-accepted st id state.0 state.1 id-fits rows.held nonce rows.long
-            ∙ ap (λ (r : Running). Answer.Accepted r st.clock) (sym given.1),
+            ∙ ap (λ (r : Running). shows r st.clock) (sym given.1),
       )
 
   -- `last`: the desk shows the t asked for
   pub last-call-accepted : (t : GlobalClock) (room : ℕ) → (last_call s id t room).figures.number ≡ 0
       → verified (proof_bytes (last_of (decode s) id t)) (all_yes (last_of (decode s) id t)) id (request_nonce id t (decode s).log)
-      ≡ Answer.Accepted (last_running s id t) t
+      ≡ shows (last_running s id t) t
   last-call-accepted t room e =
       let st : State = decode s in
       let len : ℕ = fields_len (last_of st id t) in

@@ -7,9 +7,8 @@ use Rattle.forms.specs.declared.running.Running.{Running}
 use Rattle.forms.specs.declared.terms.CounterId.{CounterId}
 use Rattle.forms.specs.declared.terms.GlobalClock.{GlobalClock}
 use Rattle.validity.specs.Proof.{Fields, fields_len, proof_bytes}
-use Rattle.desk_table.specs.Answer.{figures}
+use Rattle.desk_table.specs.Answer.{figures, shows}
 use Rattle.desk_table.specs.Desk.{all_yes, verified}
-use Rattle.desk_table.specs.declared.answer.Answer.{Answer}
 use Rattle.log_image.specs.State.{State, decode}
 use Rattle.host.specs.Host.{request_nonce, held_of, entries_of, last_entries, proof_of, last_of, prove_refusal, last_refusal, counted, start_call, prove_call, last_call, output_for}
 use Rattle.host.proofs.Laws.DoneLaws.{settled-passed, value-given}
@@ -25,7 +24,7 @@ use Rattle.assurance.proofs.Laws.HostSteps.{Kept, start-steps, call-steps}
 -- it begins with the proof, so that at its length the desk gets what was set out
 output-taken : (r : Figures) (fields : Fields) (output : List ℕ) (id : CounterId) (nonce : List ℕ) (shown : Running) (closing : GlobalClock)
     → r.number ≡ 0 → r.value ≡ fields_len fields → length (proof_bytes fields) ≡ fields_len fields
-    → verified (proof_bytes fields) (all_yes fields) id nonce ≡ Answer.Accepted shown closing
+    → verified (proof_bytes fields) (all_yes fields) id nonce ≡ shows shown closing
     → Taken (take r.value (output_for r fields output)) fields id nonce shown closing
 unfolding output_for
 output-taken r fields output id nonce shown closing done at long accepted =

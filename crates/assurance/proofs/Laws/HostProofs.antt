@@ -2,6 +2,7 @@
 -- openings at the clock, and `last`'s shows the t asked for and the number of the counter's entries up to it. Document 01, "The host"; the
 -- host's half of demand 3, at one state. Assumes nothing.
 use Rattle.std.specs.Prelude.{ℕ, zero, suc, ◌+◌, ◌-◌, ◌^◌, ◌≤◌, ◌<◌, ◌≡◌, Bool, true, false, cond, ◌&&◌, ◌||◌, List, [], ◌∷◌, ◌++◌, eqb, take, drop, refl, length}
+use Rattle.desk_table.specs.Answer.{shows}
 use Rattle.std.proofs.Common.{sym, ◌∙◌, true≢false, arith, length-append, take-append-drop, eqb-true, ne_eqb, ap, ap₂, zero-add, length-drop}
 use Rattle.std.proofs.lemmas.Bool.{false≢true}
 use Rattle.std.proofs.Math.Bool.{and-false}
@@ -19,7 +20,6 @@ use Rattle.forms.specs.declared.request.Request.{Request}
 use Rattle.forms.specs.declared.terms.CounterId.{CounterId}
 use Rattle.forms.specs.declared.terms.GlobalClock.{GlobalClock}
 use Rattle.validity.specs.Proof.{proof_bytes}
-use Rattle.desk_table.specs.declared.answer.Answer.{Answer}
 use Rattle.desk_table.specs.Desk.{all_yes, verified}
 use Rattle.log_image.specs.Laws.FitLaws.{entries-fit-drop, entries-fit-take, counted-drop, units-drop}
 use Rattle.log_image.specs.Laws.ImageRoundTrip.{StateFits}
@@ -204,18 +204,18 @@ module _ (st : State) (id : CounterId) (sound : sound_state st ≡ true) (fits :
 
   -- the desk accepts what `prove` sets out, and shows the end of the counter's chain at the clock
   pub prove-accepted : (nonce : List ℕ) → length nonce ≡ nonce_len
-      → verified (proof_bytes (proof_of st nonce id)) (all_yes (proof_of st nonce id)) id nonce ≡ Answer.Accepted (running_of st id) st.clock
+      → verified (proof_bytes (proof_of st nonce id)) (all_yes (proof_of st nonce id)) id nonce ≡ shows (running_of st id) st.clock
   unfolding ending
   prove-accepted nonce long =
       read-accepted id nonce (held_of st id) (entries_of st id) entries-set-out (record { counter = counter-some; long = long })
       (record { reading = st.clock; nonce = nonce }) refl entries-count fits.clock
-      ∙ ap (λ (i : CounterId). Answer.Accepted (running_after i (from_value (held_of st id).value) (entries_of st id)) st.clock) (sym mine.own)
+      ∙ ap (λ (i : CounterId). shows (running_after i (from_value (held_of st id).value) (entries_of st id)) st.clock) (sym mine.own)
 
   -- the desk accepts what `last` sets out for the nonce of the counter's request in entry t, and shows t and the number of the counter's
   -- entries up to it
   pub last-accepted : (t : GlobalClock) → has_entry id t (entries_of st id) ≡ true
       → verified (proof_bytes (last_of st id t)) (all_yes (last_of st id t)) id (request_nonce id t st.log)
-      ≡ Answer.Accepted (record { value = t.0; openings = own_entries id (last_entries st id t) }) t
+      ≡ shows (record { value = t.0; openings = own_entries id (last_entries st id t) }) t
   unfolding after value_after
   last-accepted t has =
       let set_out = entries-set-out in
@@ -233,6 +233,6 @@ module _ (st : State) (id : CounterId) (sound : sound_state st ≡ true) (fits :
       (set-out-take id c (entries_of st id) (t.0 - c.reading.0) set_out)
       (record { counter = counter-some; long = ap length (sym asked) ∙ nonce-long id f.last.requests f.fits.requests f.own })
       f.front f.last f.cut f.own asked
-      ∙ ap₂ Answer.Accepted
+      ∙ ap₂ shows
       (ap₂ (λ (v n : ℕ). record { value = v; openings = n }) value (openings-counted id (from_value c.value) (last_entries st id t) ∙ zero-add (own_entries id (last_entries st id t))))
       f.reads

@@ -1,5 +1,5 @@
 -- The host call that a line makes has figures of their widths, whatever bytes the line is. Assumes nothing.
-use Rattle.std.specs.Prelude.{ℕ, zero, suc, ◌^◌, ◌<◌, ◌≡◌, refl, Bool, true, false, cond, ◌&&◌, List, [], ◌∷◌, ◌++◌, leb, length, replicate}
+use Rattle.std.specs.Prelude.{ℕ, zero, suc, ◌^◌, ◌<◌, ◌≡◌, refl, Bool, true, false, cond, ◌&&◌, List, [], ◌∷◌, ◌++◌, leb, length, replicate, Option, Some, None}
 use Rattle.std.proofs.Common.{arith, leb-true}
 use Rattle.forms.specs.Bytes.{Bytes, same}
 use Rattle.forms.specs.Limits.{max_word, nonce_len}
@@ -13,7 +13,6 @@ use Rattle.grammar.specs.Command.{start_name, open_name, tick_name, inc_name, re
 use Rattle.grammar.specs.Numeral.{unpadded, all_digits, value_of, figure_of}
 use Rattle.grammar.specs.declared.command.Arguments.{Arguments}
 use Rattle.grammar.specs.declared.command.Command.{Command}
-use Rattle.grammar.specs.declared.numeral.Figure.{Figure}
 use Rattle.console.specs.Session.{max_line, line_command}
 use Rattle.console.specs.Step.{byte_nonce, empty_output, yes, request_of, request_with}
 use Rattle.assurance.specs.HostList.{HostCall, Widths}
@@ -35,39 +34,39 @@ Fits c = Widths (call_of c)
 
 -- ---- figures
 
-abbrev FigureFits : Figure → Type 0
-FigureFits (Figure.Number n) = n < 2 ^ 32
-FigureFits Figure.Missing = Unit
+abbrev FigureFits : Option ℕ → Type 0
+FigureFits (Some n) = n < 2 ^ 32
+FigureFits None = Unit
 
 figure-fits : (s : List ℕ) → FigureFits (figure_of s)
 unfolding figure_of
 figure-fits s = by-test (unpadded s && (all_digits s && leb (value_of s) max_word)) refl
   where
-    by-test : (t : Bool) → (unpadded s && (all_digits s && leb (value_of s) max_word)) ≡ t → FigureFits (cond t (Figure.Number (value_of s)) Figure.Missing)
+    by-test : (t : Bool) → (unpadded s && (all_digits s && leb (value_of s) max_word)) ≡ t → FigureFits (cond t (Some (value_of s)) None)
     by-test true e = omega (arith, leb-true (value_of s) max_word (both (all_digits s) _ (both (unpadded s) _ e).1).1)
     by-test false e = tt
 
-abbrev pub ArgumentsFit : Arguments → Type 0
-ArgumentsFit (Arguments.One a) = a < 2 ^ 32
-ArgumentsFit (Arguments.Two a b) = (a < 2 ^ 32) × (b < 2 ^ 32)
-ArgumentsFit (Arguments.Three a b c) = (a < 2 ^ 32) × (b < 2 ^ 32) × (c < 2 ^ 32)
-ArgumentsFit Arguments.Bad = Unit
+abbrev pub ArgumentsFit : Option Arguments → Type 0
+ArgumentsFit (Some (Arguments.One a)) = a < 2 ^ 32
+ArgumentsFit (Some (Arguments.Two a b)) = (a < 2 ^ 32) × (b < 2 ^ 32)
+ArgumentsFit (Some (Arguments.Three a b c)) = (a < 2 ^ 32) × (b < 2 ^ 32) × (c < 2 ^ 32)
+ArgumentsFit None = Unit
 
-one-fits : (f : Figure) → FigureFits f → ArgumentsFit (one_of f)
-one-fits (Figure.Number a) fits = fits
-one-fits Figure.Missing fits = tt
+one-fits : (f : Option ℕ) → FigureFits f → ArgumentsFit (one_of f)
+one-fits (Some a) fits = fits
+one-fits None fits = tt
 
-two-fit : (f g : Figure) → FigureFits f → FigureFits g → ArgumentsFit (two_of f g)
-two-fit (Figure.Number a) (Figure.Number b) f g = (f, g)
-two-fit (Figure.Number a) Figure.Missing f g = tt
-two-fit Figure.Missing b f g = tt
+two-fit : (f g : Option ℕ) → FigureFits f → FigureFits g → ArgumentsFit (two_of f g)
+two-fit (Some a) (Some b) f g = (f, g)
+two-fit (Some a) None f g = tt
+two-fit None b f g = tt
 
-third-fits : (a : Arguments) (f : Figure) → ArgumentsFit a → FigureFits f → ArgumentsFit (third_to a f)
-third-fits (Arguments.Two a b) (Figure.Number c) two f = (two.0, two.1, f)
-third-fits (Arguments.Two a b) Figure.Missing two f = tt
-third-fits (Arguments.One a) g one f = tt
-third-fits (Arguments.Three a b c) g three f = tt
-third-fits Arguments.Bad g none f = tt
+third-fits : (a : Option Arguments) (f : Option ℕ) → ArgumentsFit a → FigureFits f → ArgumentsFit (third_to a f)
+third-fits (Some (Arguments.Two a b)) (Some c) two f = (two.0, two.1, f)
+third-fits (Some (Arguments.Two a b)) None two f = tt
+third-fits (Some (Arguments.One a)) g one f = tt
+third-fits (Some (Arguments.Three a b c)) g three f = tt
+third-fits None g none f = tt
 
 pub arguments-fit : (ws : List (List ℕ)) → ArgumentsFit (arguments_of ws)
 unfolding arguments_of
@@ -110,20 +109,20 @@ byte_fits b c fits = by-test (leb b 255) refl
     by-test true e = fits (omega (arith, leb-true b 255 e))
     by-test false e = omega arith
 
-named-fits : (name : List ℕ) (a : Arguments) → ArgumentsFit a → Fits (named name a)
-named-fits name (Arguments.One a) fits =
+named-fits : (name : List ℕ) (a : Option Arguments) → ArgumentsFit a → Fits (named name a)
+named-fits name (Some (Arguments.One a)) fits =
     choice-fits (same name start_name) _ _ fits
     (choice-fits (same name tick_name) _ _ (byte_fits a (Command.Tick a) (nonce-bytes nonce_len a))
     (choice-fits (same name read_name) _ _ fits (omega arith)))
-named-fits name (Arguments.Two a b) fits =
+named-fits name (Some (Arguments.Two a b)) fits =
     choice-fits (same name prove_name) _ _ (byte_fits a (Command.Prove a (record { 0 = b })) (λ small. (nonce-bytes nonce_len a small, fits.1)))
     (choice-fits (same name last_name) _ _ fits.0 (omega arith))
-named-fits name (Arguments.Three a b c) fits =
+named-fits name (Some (Arguments.Three a b c)) fits =
     choice-fits (same name open_name) _ _ (record { id = fits.0; value = fits.1; reading = fits.2 })
     (choice-fits (same name inc_name) _ _
     (byte_fits a (Command.Increment a (record { 0 = b }) c) (request-bytes a (record { 0 = b }) c))
     (choice-fits (same name confirm_name) _ _ (record { id = fits.0; value = fits.1; reading = fits.2 }) (omega arith)))
-named-fits name Arguments.Bad fits = omega arith
+named-fits name None fits = omega arith
 
 words-fit : (ws : List (List ℕ)) → Fits (by_words ws)
 words-fit [] = omega arith

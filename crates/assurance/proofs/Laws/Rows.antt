@@ -21,8 +21,7 @@ use Rattle.validity.specs.Proof.{miscounted, log_offset}
 use Rattle.validity.specs.Laws.ProofLaws.{count-some}
 use Rattle.validity.specs.declared.proof.Kind.{Kind}
 use Rattle.validity.specs.declared.proof.Proof.{Proof}
-use Rattle.desk_table.specs.Answer.{figures}
-use Rattle.desk_table.specs.declared.answer.Answer.{Answer}
+use Rattle.desk_table.specs.Answer.{figures, Answer}
 use Rattle.desk_table.specs.Desk.{confirmation, certificate, entry, verdicts_before, verdict_count, verdict_place, zero_or_one, is_no, module_verdict, owner_verdict, is_own, closes_on, running_to, bad_wanted, bad_verdicts, bad_confirmation, certificate_denied, module_denied, forged, repeated, closes_elsewhere, wrong_reading, wrong_closing, breaks_chain, closing}
 use Rattle.desk_table.proofs.Laws.LowestLaws.{Clear}
 

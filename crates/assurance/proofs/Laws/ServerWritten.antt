@@ -1,6 +1,6 @@
 -- What reads back from a proof that the host wrote: the confirmation that it holds, the certificate and the entries set out; its verdicts are all yes, and
 -- the desk accepts it at the reading that it closes on. Assumes nothing.
-use Rattle.std.specs.Prelude.{ℕ, ◌-◌, ◌^◌, ◌≤◌, ◌<◌, ◌≡◌, refl, true, List, length, drop}
+use Rattle.std.specs.Prelude.{ℕ, ◌-◌, ◌^◌, ◌≤◌, ◌<◌, ◌≡◌, refl, true, List, length, drop, Ok}
 use Rattle.std.proofs.Common.{sym, ap, subst, ◌∙◌}
 use Rattle.std.proofs.lemmas.List.{length-replicate}
 use Rattle.forms.specs.Entry.{Entry, entries_at, log_bytes}
@@ -14,7 +14,6 @@ use Rattle.validity.specs.Proof.{Fields, fields_len, shape_of, proof_bytes, shap
 use Rattle.validity.specs.Laws.ProofLaws.{parsed-shape}
 use Rattle.validity.specs.Laws.RoundTrip.{Takes, encode-reads}
 use Rattle.validity.specs.declared.proof.Kind.{Kind}
-use Rattle.validity.specs.declared.proof.Parsed.{Parsed}
 use Rattle.desk_table.specs.Answer.{figures}
 use Rattle.desk_table.specs.declared.answer.Figures.{Figures}
 use Rattle.desk_table.specs.Desk.{verified, confirmation, certificate, all_yes, verdicts_for}
@@ -45,7 +44,7 @@ pub record Written (p : Call) (kind : Kind) (k : Confirmation) (es : List Entry)
 -- it reads back from fields that the desk takes
 pub set-down : (p : Call) (fields : Fields) (kind : Kind) (k : Confirmation) (es : List Entry) (running : Running) (closing : GlobalClock)
     → p.verdicts ≡ all_yes fields → Taken p.proof fields p.id p.nonce running closing
-    → parsed (proof_bytes fields) ≡ Parsed.Proof (record { kind = kind; count = length es })
+    → parsed (proof_bytes fields) ≡ Ok (record { kind = kind; count = length es })
     → confirmation (proof_bytes fields) ≡ k → EntriesFit es → drop (log_offset kind) (proof_bytes fields) ≡ log_bytes es → Written p kind k es closing
 set-down p fields kind k es running closing all_yes fair reads confirms fit back =
     let shown-is = ap (λ (v : List ℕ). figures (verified p.proof v p.id p.nonce)) all_yes ∙ fair.accepted in

@@ -1,61 +1,45 @@
 -- Where the code stands behind an order. Assumes nothing.
-use Rattle.std.specs.Prelude.{ℕ, ◌+◌, ◌<◌, ◌≡◌, true, false, List, length, set, take}
-use Rattle.std.proofs.Common.{add-zero, add-one, arith, sym, ap, ap₂, ◌∙◌, subst, length-take, take-suc-set}
+use Rattle.std.specs.Prelude.{ℕ, ◌+◌, ◌≤◌, ◌<◌, ◌≡◌, refl, true, false, List, length, set, take}
+use Rattle.std.proofs.Common.{add-one, arith, ap, ap₂, ◌∙◌, length-take, take-suc-set}
 use Rattle.forms.specs.Bytes.{overwrite}
 use Rattle.forms.specs.declared.confirmation.Confirmation.{Confirmation}
 use Rattle.forms.specs.declared.terms.CounterId.{CounterId}
 use Rattle.forms.specs.declared.terms.GlobalClock.{GlobalClock}
 use Rattle.host.specs.Host.{open_call}
-use Rattle.console.specs.Lines.{Answered}
+use Rattle.console.specs.Lines.{Told}
 use Rattle.console.specs.Step.{yes}
 use Rattle.tablets.specs.Rounds.{Depot, depot_of, tablets_of}
 use Rattle.tablets.specs.Tablet.{blank, max_tablets}
 use Rattle.tablets.specs.declared.rounds.Fleet.{Fleet}
 use Rattle.tablets.specs.declared.tablet.Tablet.{Tablet}
-use Rattle.text.specs.Laws.LineLaws.{nothing_put}
+use Rattle.console.specs.Laws.LinesLaws.{told-empty}
 use Rattle.bench.specs.Bench.{Bench, Stage, Standing, no_order, passed_over, placed, refused_tablet, silent, standing_of, tablet_ordered}
-use Rattle.bench.specs.Result.{result_text}
-use Rattle.bench.specs.declared.bench.Ordered.{Ordered}
-
--- the bench is as ordered, and the text is stored from a place on
-pub record Told (told : Answered Standing) (before : List ℕ) (at : ℕ) (r : Ordered) (image text : List ℕ) : Type 0 where
-  pub at-state : standing_of r.bench image ≡ told.state
-  pub at_len : r.len ≡ at + length told.text
-  pub stored : text ≡ overwrite before at told.text
-
--- an order that is the same by another name
-pub told-as : {a b : Answered Standing} {before : List ℕ} {at : ℕ} {r : Ordered} {image text : List ℕ} → a ≡ b → Told b before at r image text
-    → Told a before at r image text
-told-as {before = before} {at = at} {r = r} {image = image} {text = text} e t =
-    subst (λ (x : Answered Standing). Told x before at r image text) (sym e) t
+use Rattle.bench.specs.Result.{max_result, result_text}
 
 -- a line that is passed over leaves the bench as it is
-pub told-passed : (bench : Bench) (image before : List ℕ) (at : ℕ) {r : Ordered} {text : List ℕ}
-    → ((r.bench ≡ bench) × (r.len ≡ at + length no_order)) × (text ≡ overwrite before at no_order)
-    → Told (passed_over (standing_of bench image)) before at r image text
-told-passed bench image before at passed =
-    record { at-state = ap (λ (b : Bench). standing_of b image) passed.0.0; at_len = passed.0.1; stored = passed.1 }
+pub told-passed : (bench : Bench) (image before : List ℕ) (at : ℕ) {len : ℕ} {text : List ℕ}
+    → (len ≡ at + length no_order) × (text ≡ overwrite before at no_order)
+    → Told (passed_over (standing_of bench image)) max_result before at (standing_of bench image) len text
+told-passed bench image before at passed = record { at-state = refl; at_len = passed.0; stored = passed.1; short = omega arith }
 
 -- one that prints nothing
 pub told-silent : (stage : Stage) (fleet : Fleet) (image before : List ℕ) (at : ℕ) {d : Depot} → depot_of fleet image ≡ d
-    → Told (silent stage d) before at (record { bench = record { stage = stage; fleet = fleet }; len = at }) image before
-told-silent stage fleet image before at e =
-    record {
-      at-state = ap (λ (d : Depot). record { stage = stage; depot = d }) e;
-      at_len = sym (add-zero at);
-      stored = (nothing_put before at).1;
-    }
+    → Told (silent stage d) max_result before at (standing_of (record { stage = stage; fleet = fleet }) image) at before
+told-silent stage fleet image before at {d} e =
+    told-empty (silent stage d) max_result before at refl (ap (λ (d : Depot). record { stage = stage; depot = d }) e)
 
 -- the run, whose result is printed
 pub told-run : (fleet : Fleet) (image before : List ℕ) (at : ℕ) {len : ℕ} {text : List ℕ} {d : Depot} → depot_of fleet image ≡ d
-    → (len ≡ at + length (result_text (tablets_of fleet))) × (text ≡ overwrite before at (result_text (tablets_of fleet)))
-    → Told (record { state = record { stage = Stage.Ran; depot = d }; text = result_text d.tablets }) before at
-    (record { bench = record { stage = Stage.Ran; fleet = fleet }; len = len }) image text
-told-run fleet image before at e put =
+    → ((len ≡ at + length (result_text (tablets_of fleet))) × (text ≡ overwrite before at (result_text (tablets_of fleet)))) × (len ≤ at + max_result)
+    → Told (record { state = record { stage = Stage.Ran; depot = d }; text = result_text d.tablets }) max_result before at
+    (standing_of (record { stage = Stage.Ran; fleet = fleet }) image) len text
+told-run fleet image before at {len} e put =
+    let ends = put.0.0 ∙ ap (λ (d : Depot). at + length (result_text d.tablets)) e in
     record {
       at-state = ap (λ (d : Depot). record { stage = Stage.Ran; depot = d }) e;
-      at_len = put.0 ∙ ap (λ (d : Depot). at + length (result_text d.tablets)) e;
-      stored = put.1 ∙ ap (λ (d : Depot). overwrite before at (result_text d.tablets)) e;
+      at_len = ends;
+      stored = put.0.1 ∙ ap (λ (d : Depot). overwrite before at (result_text d.tablets)) e;
+      short = omega (arith, ends, put.1);
     }
 
 -- ---- a tablet

@@ -3,11 +3,13 @@ use Rattle.std.specs.Prelude.{ℕ, zero, suc, ◌+◌, ◌-◌, ◌*◌, ◌/◌
 use Rattle.std.specs.Prelude.{set, refl, true, false, cond}
 use Rattle.std.proofs.Common.{mul-suc, add-one, arith, sym, ap₂, ◌∙◌, subst, append_assoc, length-append, length-take, take-append-drop}
 use Rattle.std.proofs.Common.{drop_of_length-le, take_at, take-suc-set, drop_at, drop-cons, drop-drop, length-take-le, le-leb, lt-ltb, le-ltb, eq-eqb}
-use Rattle.std.proofs.Common.{ne_eqb, ap}
+use Rattle.std.proofs.Common.{ne_eqb, ap, leb-false, div-mul-le_self, mul-le-mul_right, mul_comm, add-zero}
 use Rattle.std.proofs.lemmas.Bool.{lt-leb}
 use Rattle.forms.specs.Bytes.{overwrite}
 use Rattle.forms.specs.Laws.BytesLaws.{overwrite-fits, length-overwrite}
-use Rattle.console.specs.Lines.{Answered, Answering, Session, Printed, Pending, within, over, begun, byte_taken, closed, ended, ended_session}
+use Rattle.text.specs.Laws.LineLaws.{nothing_put}
+use Rattle.console.specs.Lines.{Answered, Answering, Session, Printed, Pending, Told, within, over, answered_within, begun, byte_taken, closed, ended}
+use Rattle.console.specs.Lines.{ended_session}
 use Rattle.console.specs.Lines.{extended, fed_session, max_line, newline, pending_of, resumed, taken}
 use Rattle.console.specs.declared.session.Line.{Line}
 
@@ -26,39 +28,40 @@ pub record Took {S : Type 0} (k : Session S) (before : List ℕ) (line : Line) (
 
 -- ---- what the code holds of a line
 
-pub begun-held : (line : Line) → length line.bytes ≡ max_line → line.over ≡ false → ltb 0 line.len ≡ begun (pending_of line)
-begun-held line h e =
-    first line.len line.bytes (omega arith) ∙ ap (λ (t : Bool). begun (cond t over (within (take line.len line.bytes)))) (sym e)
-  where
-    first : (n : ℕ) (s : List ℕ) → 0 < length s → ltb 0 n ≡ begun (within (take n s))
-    first zero s l = refl
-    first (suc n) [] l = absurd (omega arith)
-    first (suc n) (b ∷ s) l = lt-ltb 0 (suc n) (omega arith)
+module _ (line : Line) (full : length line.bytes ≡ max_line) where
+  pub begun-held : ltb 0 line.len ≡ begun (pending_of line)
+  begun-held = go (leb line.len max_line) refl
+    where
+      first : (n : ℕ) (s : List ℕ) → 0 < length s → ltb 0 n ≡ begun (within (take n s))
+      first zero s l = refl
+      first (suc n) [] l = absurd (omega arith)
+      first (suc n) (b ∷ s) l = lt-ltb 0 (suc n) (omega arith)
 
--- a byte is stored behind those of a line that is not full
-pub extended-held : (line : Line) (b : ℕ) → length line.bytes ≡ max_line → line.len < max_line
-    → pending_of (record { bytes = set line.bytes line.len b; len = line.len + 1; over = line.over }) ≡ extended (pending_of line) b
-unfolding extended
-extended-held line b h l = go line.over
-  where
-    go : (t : Bool)
-        → cond t over (within (take (line.len + 1) (set line.bytes line.len b))) ≡ extended (cond t over (within (take line.len line.bytes))) b
-    go true = refl
-    go false =
-        let inside : line.len < length line.bytes = omega arith in
-        let short : length (take line.len line.bytes) < max_line = simp length-take (omega arith) in
-        rw (add-one, take-suc-set line.bytes line.len b inside, lt-ltb _ _ short)
+      go : (t : Bool) → leb line.len max_line ≡ t → ltb 0 line.len ≡ begun (cond t (within (take line.len line.bytes)) over)
+      go true e = first line.len line.bytes (omega arith)
+      go false e = lt-ltb 0 line.len (omega (arith, leb-false line.len max_line e))
 
--- one that is full has too many bytes with it
-pub over-held : (line : Line) (b : ℕ) → length line.bytes ≡ max_line → max_line ≤ line.len → over ≡ extended (pending_of line) b
-unfolding extended
-over-held line b h l = go line.over
-  where
-    go : (t : Bool) → over ≡ extended (cond t over (within (take line.len line.bytes))) b
-    go true = refl
-    go false =
-        let full : max_line ≤ length (take line.len line.bytes) = simp length-take (omega arith) in
-        rw (le-ltb _ _ full)
+  -- a byte is stored behind those of a line that is not full
+  pub extended-held : (b n : ℕ) → line.len < max_line → n ≡ line.len + 1
+      → pending_of (record { bytes = set line.bytes line.len b; len = n }) ≡ extended (pending_of line) b
+  unfolding extended
+  extended-held b n some e =
+      let inside : line.len < length line.bytes = omega arith in
+      let short : length (take line.len line.bytes) < max_line = simp length-take (omega arith) in
+      let within-n : n ≤ max_line = omega arith in
+      let within-len : line.len ≤ max_line = omega arith in
+      rw (le-leb _ _ within-n, le-leb _ _ within-len, e, add-one, take-suc-set line.bytes line.len b inside, lt-ltb _ _ short)
+
+  -- one that is full has too many bytes with it
+  pub over-held : (b n : ℕ) → max_line ≤ line.len → max_line < n → pending_of (record { bytes = line.bytes; len = n }) ≡ extended (pending_of line) b
+  unfolding extended
+  over-held b n full-line more = rw (lt-leb _ _ more) (go (leb line.len max_line))
+    where
+      go : (t : Bool) → over ≡ extended (cond t (within (take line.len line.bytes)) over) b
+      go false = refl
+      go true =
+          let all : max_line ≤ length (take line.len line.bytes) = simp length-take (omega arith) in
+          rw (le-ltb _ _ all)
 
 -- ---- an answer behind the text
 
@@ -74,6 +77,44 @@ module _ (s : List ℕ) (k : ℕ) (v : List ℕ) (fits : k + length v ≤ length
 
   drop-written : drop (k + length v) (overwrite s k v) ≡ drop (k + length v) s
   drop-written = ap (drop (k + length v)) split ∙ drop_at (take k s ++ v) (drop (k + length v) s) (k + length v) length-written
+
+-- an answer that is the same by another name
+pub told-as : {S : Type 0} {a b : Answered S} {most : ℕ} {before : List ℕ} {at : ℕ} {state : S} {len : ℕ} {text : List ℕ} → a ≡ b
+    → Told b most before at state len text → Told a most before at state len text
+told-as {S} {most = most} {before = before} {at = at} {state = state} {len = len} {text = text} e t =
+    subst (λ (a : Answered S). Told a most before at state len text) (sym e) t
+
+-- one without text
+pub told-empty : {S : Type 0} (told : Answered S) (most : ℕ) (before : List ℕ) (at : ℕ) {state : S} → told.text ≡ [] → state ≡ told.state
+    → Told told most before at state at before
+told-empty told most before at none is =
+    record {
+      at-state = is;
+      at_len = sym (ap (λ (s : List ℕ). at + length s) none ∙ add-zero at);
+      stored = (nothing_put before at).1 ∙ ap (overwrite before at) (sym none);
+      short = omega (arith, ap length none);
+    }
+
+module _ {S : Type 0} (answer : Answering S) (most : ℕ) (state : S) (line : Pending) where
+  -- where there is room for the longest answer, the line is answered
+  answered-room : (room : ℕ) → most ≤ room → answered_within answer most room state line ≡ answer state line
+  unfolding answered_within
+  answered-room room h = rw (le-leb most room h)
+
+  answered-none : (room : ℕ) → room < most → answered_within answer most room state line ≡ record { state = state; text = [] }
+  unfolding answered_within
+  answered-none room h = rw (lt-leb most room h)
+
+  -- with less room nothing is done
+  pub told-none : (before : List ℕ) (at : ℕ) → length before - at < most
+      → Told (answered_within answer most (length before - at) state line) most before at state at before
+  told-none before at h = told-as (answered-none (length before - at) h) (told-empty (record { state = state; text = [] }) most before at refl refl)
+
+  -- with room what was answered is stored
+  pub told-room : (before : List ℕ) (at : ℕ) {after : S} {end : ℕ} {text : List ℕ} → most ≤ length before - at
+      → Told (answer state line) most before at after end text
+      → Told (answered_within answer most (length before - at) state line) most before at after end text
+  told-room before at h told = told-as (answered-room (length before - at) h) told
 
 -- the line's answer was stored behind the text
 pub took-closed : {S : Type 0} (answer : Answering S) (line : Line) (len : ℕ) (state : S) (before : List ℕ) {told : Answered S} {next : Line}
@@ -92,6 +133,17 @@ took-closed {S} answer line len state before {told} answered fits left ends stor
       behind = ap₂ drop ends stored ∙ drop-written before len told.text fits ∙ ap (λ (n : ℕ). drop n before) (sym ends);
       same_length = ap length stored ∙ length-overwrite before len told.text;
     }
+
+-- and where there was room for the longest answer, the text has grown by no more than that
+pub took-told : {S : Type 0} (answer : Answering S) (most : ℕ) (line : Line) (len : ℕ) (state : S) (before : List ℕ) {next : Line} {end : ℕ}
+    {after : S} {text : List ℕ} → len + most ≤ length before
+    → Told (answered_within answer most (length before - len) state (pending_of line)) most before len after end text → pending_of next ≡ within []
+    → Took (closed answer (session_at line len state before)) before next end after text × (end ≤ len + most)
+took-told answer most line len state before room told new =
+    let own = told-as (sym (answered-room answer most state (pending_of line) (length before - len) (omega arith))) told in (
+      took-closed answer line len state before refl (omega (arith, own.short)) own.at-state own.at_len own.stored new,
+      omega (arith, own.at_len, own.short),
+    )
 
 -- ---- a byte
 
@@ -118,17 +170,15 @@ took-other {S} answer line len state text b {next} inside other new =
       same_length = refl;
     })
 
--- the text grows by at most the answer to the line
-text-grows : {S : Type 0} (answer : Answering S) (most : ℕ) (k : Session S) (b : ℕ) → length (answer k.state k.pending).text ≤ most
-    → (length k.text ≤ length (byte_taken answer k b).text) × (length (byte_taken answer k b).text ≤ length k.text + most)
+-- the text does not get shorter
+text-grows : {S : Type 0} (answer : Answering S) (k : Session S) (b : ℕ) → length k.text ≤ length (byte_taken answer k b).text
 unfolding byte_taken closed
-text-grows {S} answer most k b few = go (eqb b newline)
+text-grows {S} answer k b = go (eqb b newline)
   where
     go : (t : Bool) →
-        let after : Session S = cond t (closed answer k) (record { pending = extended k.pending b; state = k.state; text = k.text }) in
-        (length k.text ≤ length after.text) × (length after.text ≤ length k.text + most)
-    go true = simp length-append (omega arith, omega arith)
-    go false = (omega arith, omega arith)
+        length k.text ≤ length (cond t (closed answer k) (record { pending = extended k.pending b; state = k.state; text = k.text })).text
+    go true = simp length-append (omega arith)
+    go false = omega arith
 
 -- ---- where the code stands
 
@@ -184,22 +234,39 @@ drop-later m n s t h e =
     ∙ drop-drop (n - m) m t
     ∙ ap (λ (k : ℕ). drop k t) sum
 
--- a byte more, where the answer to its line has at most so many bytes
+-- none of them is taken yet
+pub feeding-begun : {S : Type 0} (answer : Answering S) (most : ℕ) (line : Line) (state : S) (part before : List ℕ) → length part ≤ length before / most
+    → Feeding answer most (resumed line state) part before line 0 state before 0
+feeding-begun answer most line state part before h =
+    let all : length part * most ≤ length before / most * most = mul-le-mul_right most h in
+    let same : length part - 0 ≡ length part = omega arith in
+    let left : most * (length part - 0) ≡ length part * most = ap (λ (n : ℕ). most * n) same ∙ mul_comm most (length part) in
+    record { inside = omega arith; room = omega (arith, left, all, div-mul-le_self (length before) most); to-come = refl; behind = refl; same_length = refl }
+
+-- there is room for the answer to one more
+pub feeding-room : {S : Type 0} {answer : Answering S} {most : ℕ} {k : Session S} {part before : List ℕ} {line : Line} {len : ℕ} {state : S}
+    {text : List ℕ} {i : ℕ} → Feeding answer most k part before line len state text i → i < length part → len + most ≤ length text
+feeding-room {most = most} {part = part} {len = len} {text = text} {i = i} f h =
+    let left : length part - i ≡ suc (length part - (i + 1)) = omega arith in
+    let one : most * (length part - i) ≡ most * (length part - (i + 1)) + most =
+    ap (λ (n : ℕ). most * n) left ∙ mul-suc most (length part - (i + 1)) in
+    omega (arith, one, f.room, f.same_length)
+
+-- a byte more, where the text has grown by at most so many bytes
 pub feeding-more : {S : Type 0} {answer : Answering S} {most : ℕ} {k : Session S} {part before : List ℕ} {line next : Line} {len end : ℕ}
     {state after : S}
     {text printed : List ℕ} {i : ℕ} → Feeding answer most k part before line len state text i → i < length part
-    → length (answer state (pending_of line)).text ≤ most
-    → Took (byte_taken answer (session_at line len state text) (get_or part i 0)) text next end after printed
+    → Took (byte_taken answer (session_at line len state text) (get_or part i 0)) text next end after printed → end ≤ len + most
     → Feeding answer most k part before next end after printed (i + 1)
-feeding-more {S} {answer} {most} {k} {part} {before} {line} {next} {len} {end} {state} {after} {text} {printed} {i} f h few t =
+feeding-more {S} {answer} {most} {k} {part} {before} {line} {next} {len} {end} {state} {after} {text} {printed} {i} f h t short =
     let left : length part - i ≡ suc (length part - (i + 1)) = omega arith in
     let one : most * (length part - i) ≡ most * (length part - (i + 1)) + most =
     ap (λ (n : ℕ). most * n) left ∙ mul-suc most (length part - (i + 1)) in
     let long : length (take len text) ≡ len = length-take-le len text (omega (arith, one, f.room, f.same_length)) in
-    let grows = text-grows answer most (session_at line len state text) (get_or part i 0) few in
+    let grows = text-grows answer (session_at line len state text) (get_or part i 0) in
     record {
       inside = omega arith;
-      room = omega (arith, one, long, grows, t.at_len, f.room);
+      room = omega (arith, one, short, f.room);
       to-come =
           f.to-come
           ∙ taken_next answer (session_at line len state text) part i h

@@ -2,7 +2,7 @@
 use Rattle.std.specs.Prelude.{◌≡◌, refl, Bool, false, cond, ◌||◌, eqb, ltb, length, get_or, take, drop, replicate, ℕ, zero, suc, ◌+◌, ◌-◌, ◌*◌, ◌≤◌}
 use Rattle.std.specs.Prelude.{◌<◌, true, ◌&&◌, List, [], ◌∷◌, ◌++◌}
 use Rattle.std.proofs.Math.Path.{subst⁻¹}
-use Rattle.std.proofs.Common.{◌∙◌, length-drop, eq-eqb, ne_eqb, lt-ltb, le-ltb, sym, ap, ap₂, append-nil, arith}
+use Rattle.std.proofs.Common.{◌∙◌, length-drop, eq-eqb, ne_eqb, lt-ltb, le-ltb, sym, ap, ap₂, append-nil, add-one, arith}
 use Rattle.std.proofs.Math.Bool.{or-true, and-false}
 use Rattle.std.proofs.lemmas.Bool.{false≢true}
 use Rattle.std.proofs.lemmas.List.{length-replicate}
@@ -22,13 +22,12 @@ use Rattle.desk_table.specs.Desk.{all_yes, verdicts_for, verified}
 use Rattle.desk_table.proofs.Laws.VerdictsLaws.{verdicts-few}
 use Rattle.log_image.specs.Laws.EndLaws.{first-within}
 use Rattle.log_image.specs.Laws.ImageRoundTrip.{laid-out-parts, sound-laid-out}
-use Rattle.log_image.specs.Laws.LogLaws.{entries-first}
+use Rattle.log_image.specs.Laws.LogLaws.{entries-first, entries_none}
 use Rattle.log_image.specs.Sound.{base, laid_out, after}
 use Rattle.log_image.specs.State.{State, decode, entry_count}
 use Rattle.host.proofs.Laws.DoneLaws.{settled-passed, value-given}
 use Rattle.host.specs.Host.{has_entry, request_nonce, held_of, proof_of, last_of, prove_refusal, last_refusal, counted, increment_figures}
 use Rattle.host.specs.Host.{increment_call, prove_call, last_call, prove_output, last_output}
-use Rattle.host.proofs.Laws.LastLaws.{has-none}
 use Rattle.host.proofs.Laws.RefusalLaws.{prove-passed, last-passed}
 use Rattle.host.specs.declared.answer.BatchFigures.{BatchFigures}
 use Rattle.host.specs.declared.answer.Figures.{Figures}
@@ -110,24 +109,23 @@ module _ (id : CounterId) (t : GlobalClock) (s : List ℕ) (k n : ℕ) (nonce : 
       (named-at false (le-ltb index_at (count_at s k) (omega (arith, at, past)))))
 
   pub found_none : n ≤ 0 → FoundNonce id t (entries_at s k n) nonce
-  found_none none has = absurd (false≢true (sym (has-none id t s k n none) ∙ has))
+  unfolding has_entry
+  found_none none has = absurd (false≢true (sym (ap (has_entry id t) (entries_none s k n none)) ∙ has))
 
--- so many entries of an image's log are left: they stand within it, and the first keeps the limit of requests
-module _ (s : List ℕ) (count left offset : ℕ) (laid : laid_out s ≡ true) (all : count ≡ entry_count s) (some : 0 < left) (few : left ≤ count)
-    (here : offset ≡ offset_at s image_log_offset (count - left)) where
+-- so many entries of an image's log are passed: the next one stands within it, and keeps the limit of requests
+module _ (s : List ℕ) (count passed offset : ℕ) (laid : laid_out s ≡ true) (all : count ≡ entry_count s) (some : passed < count)
+    (here : offset ≡ offset_at s image_log_offset passed) where
   pub turn-within : (offset ≤ image_len) × (count_at s offset ≤ max_requests)
   turn-within = (
-    subst⁻¹ (λ (o : ℕ). o ≤ image_len) here (first-within s laid (count - left) (omega (arith, all))),
+    subst⁻¹ (λ (o : ℕ). o ≤ image_len) here (first-within s laid passed (omega (arith, all))),
     subst⁻¹ (λ (o : ℕ). count_at s o ≤ max_requests) here
-        (walk-counts s image_log_offset (entry_count s) _ (laid-out-parts s laid).walked (count - left) (omega (arith, all))).0,
+        (walk-counts s image_log_offset (entry_count s) _ (laid-out-parts s laid).walked passed (omega (arith, all))).0,
   )
 
   -- and behind it stand the others
-  pub turn-next : offset + len_at s offset ≡ offset_at s image_log_offset (count - (left - 1))
+  pub turn-next : offset + len_at s offset ≡ offset_at s image_log_offset (passed + 1)
   unfolding offset_at
-  turn-next =
-      let one : suc (count - left) ≡ count - (left - 1) = omega arith in
-      ap (λ (o : ℕ). o + len_at s o) here ∙ ap (offset_at s image_log_offset) one
+  turn-next = ap (λ (o : ℕ). o + len_at s o) here ∙ ap (offset_at s image_log_offset) (sym (add-one passed))
 
 -- ---- a verdict list that is all yes
 

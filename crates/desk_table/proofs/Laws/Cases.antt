@@ -2,7 +2,7 @@
 -- nonce that a proof of kind 2 closes on and one of another counter's reading, as one table: each row is a proof by its fields, its verdicts, what is
 -- wanted, and the answer's number, value, place and openings. Each entry carries one request, and its nonce is the digest of that. One theorem says
 -- that the desk's definition gives every row its answer, whatever the digests are. Assumes nothing.
-use Rattle.std.specs.Prelude.{◌≡◌, refl, ℕ, suc, Bool, true, false, not, cond, ◌&&◌, T, eqb, length, replicate, take, drop, List, [], ◌∷◌, ◌++◌, map}
+use Rattle.std.specs.Prelude.{◌≡◌, refl, ℕ, suc, Bool, true, false, not, cond, ◌&&◌, T, eqb, length, replicate, take, drop, List, [], ◌∷◌, ◌++◌, map, Ok}
 use Rattle.std.proofs.Common.{sym, ap, ◌∙◌, subst, eqb→eq}
 use Rattle.std.proofs.Math.Path.{subst⁻¹}
 use mathlib.Core.List.{head-eq_of_cons-eq, tail-eq_of_cons-eq, Memᴰ}
@@ -21,10 +21,9 @@ use Rattle.forms.specs.declared.terms.CounterId.{CounterId}
 use Rattle.forms.specs.declared.confirmation.Confirmation.{Confirmation}
 use Rattle.digest.specs.Seal.{digest_of, is_sealed}
 use Rattle.digest.specs.Laws.SealLaws.{digest-length}
-use Rattle.validity.specs.Proof.{Fields, read, increment, shape_of, log_offset, header_of, header_bytes, proof_bytes, parsed}
-use Rattle.validity.specs.declared.proof.Parsed.{Parsed}
+use Rattle.validity.specs.Proof.{Fields, read, increment, shape_of, log_offset, header_of, header_bytes, proof_bytes, parsed, Parsed}
 use Rattle.validity.specs.declared.proof.Proof.{Proof}
-use Rattle.desk_table.specs.Answer.{Answer, Figures, figures}
+use Rattle.desk_table.specs.Answer.{Answer, Figures, figures, refuses}
 use Rattle.desk_table.specs.Lowest.{lowest_from, lowest}
 use Rattle.desk_table.specs.Desk.{all_yes, zero_or_one, verdicts_to, is_own, running_to, bad_wanted, bad_verdicts, bad_confirmation, certificate_denied}
 use Rattle.desk_table.specs.Desk.{module_denied, forged, repeated, closes_elsewhere, wrong_reading, wrong_closing, breaks_chain, closing}
@@ -192,18 +191,18 @@ none-unsealed i (e ∷ es) =
 passing : Proof → List ℕ → List ℕ → CounterId → List ℕ → Answer
 passing p s verdicts id nonce =
     let rows = later_checks p s verdicts id nonce in
-    cond (bad_wanted id nonce) (Answer.Refused 1 0) (first_answer (take 5 rows ++ drop 6 rows) (accepted p s verdicts id))
+    cond (bad_wanted id nonce) (refuses 1 0) (first_answer (take 5 rows ++ drop 6 rows) (accepted p s verdicts id))
 
 -- where the bytes read as a proof and its entries have their digests
-passing-verified : (p : Proof) (s verdicts : List ℕ) (id : CounterId) (nonce : List ℕ) → parsed s ≡ Parsed.Proof p
+passing-verified : (p : Proof) (s verdicts : List ℕ) (id : CounterId) (nonce : List ℕ) → parsed s ≡ Ok p
     → lowest (forged s (log_offset p.kind)) p.count ≡ 0 → verified s verdicts id nonce ≡ passing p s verdicts id nonce
 unfolding passing judged
 passing-verified p s verdicts id nonce reads sealed =
     let rows = later_checks p s verdicts id nonce in
     verified-parsed s verdicts id nonce
-    ∙ ap (λ (r : Parsed). cond (bad_wanted id nonce) (Answer.Refused 1 0) (answer_of (λ (x : Proof). judged x s verdicts id nonce) r)) reads
+    ∙ ap (λ (r : Parsed). cond (bad_wanted id nonce) (refuses 1 0) (answer_of (λ (x : Proof). judged x s verdicts id nonce) r)) reads
     ∙ ap (λ (place : ℕ).
-    cond (bad_wanted id nonce) (Answer.Refused 1 0) (first_answer (take 5 rows ++ (lowest_entry 30 place ∷ drop 6 rows)) (accepted p s verdicts id))) sealed
+    cond (bad_wanted id nonce) (refuses 1 0) (first_answer (take 5 rows ++ (lowest_entry 30 place ∷ drop 6 rows)) (accepted p s verdicts id))) sealed
 
 -- ---- every row holds
 
@@ -230,7 +229,7 @@ abbrev reading : Case → Parsed
 reading c = parsed (proof_bytes c.proof)
 
 abbrev shape : Case → Parsed
-shape c = Parsed.Proof (shape_of c.proof)
+shape c = Ok (shape_of c.proof)
 
 abbrev found : Case → ℕ
 found c = lowest (forged (proof_bytes c.proof) (log_offset (shape_of c.proof).kind)) (shape_of c.proof).count

@@ -1,7 +1,9 @@
 -- Laws of a block's rounds: the words of its schedule, what is done after some of its rounds, and that hash values hang on the bytes of the blocks
 -- alone. Assumes nothing.
-use Rattle.std.specs.Prelude.{◌≡◌, ℕ, zero, suc, ◌+◌, ◌-◌, ◌*◌, ◌<◌, ◌≤◌, List, [], ◌∷◌, ◌++◌, length, take, drop, bit_xor, slice_index, slice_set, refl}
-use Rattle.std.proofs.Common.{sym, ap, ap₂, ◌∙◌, add-zero, add-suc, add_assoc, zero-add, add-one, arith, below_more, length-append, length-set, get_or-take, get_or-drop, get_or-set_same, get_or-set_other}
+use Rattle.std.specs.Prelude.{◌≡◌, ℕ, zero, suc, ◌+◌, ◌-◌, ◌*◌, ◌/◌, ◌<◌, ◌≤◌, List, [], ◌∷◌, ◌++◌, length, take, drop, bit_xor, slice_index, slice_set, refl}
+use Rattle.std.specs.List.{fold}
+use Rattle.std.specs.Simd.{first_chunks}
+use Rattle.std.proofs.Common.{sym, ap, ap₂, ◌∙◌, add-zero, add-suc, add_assoc, zero-add, add-one, arith, below_more, length-append, length-set, length-take-le, get_or-take, get_or-drop, get_or-set_same, get_or-set_other}
 use Rattle.std.proofs.Math.ListN.{get_or-append}
 use Rattle.std.proofs.lemmas.List.{get_or_at}
 use Rattle.forms.specs.Number.{big_endian, be32, words}
@@ -168,3 +170,21 @@ hashed-more h s i (suc j) =
     ∙ ap₂ compressed (hashed-more h s i j)
     (words_same 16 s (drop (64 * i) s) (64 * (i + j)) (64 * j)
     (λ k below. ap (λ (x : ℕ). slice_index s x) (omega arith) ∙ sym (get_or-drop (64 * i) s (64 * j + k) 0)))
+
+-- a turn for each block of some bytes, in the order of the blocks
+pub hashed-blocks : (h : Hash) (s : List ℕ) (n : ℕ) → fold (λ v block. compressed v (words 16 block 0)) h (first_chunks 64 n s) ≡ hashed h s n
+unfolding hashed
+hashed-blocks h s zero = refl
+hashed-blocks h s (suc n) =
+    hashed-blocks (compressed h (words 16 (take 64 s) 0)) (drop 64 s) n
+    ∙ ap (λ (m : List ℕ). hashed (compressed h m) (drop 64 s) n) (words-part 16 s 0)
+    ∙ sym (hashed-more h s 1 n)
+    ∙ ap (hashed h s) {y = suc n} (omega arith)
+
+-- the same of a front of some bytes
+pub hashed-front : (h : Hash) (s : List ℕ) (n : ℕ) → 64 * n ≤ length s
+    → fold (λ v block. compressed v (words 16 block 0)) h (first_chunks 64 (length (take (64 * n) s) / 64) (take (64 * n) s)) ≡ hashed h s n
+hashed-front h s n within =
+    hashed-blocks h (take (64 * n) s) (length (take (64 * n) s) / 64)
+    ∙ ap (hashed h (take (64 * n) s)) {y = n} (omega (arith, length-take-le (64 * n) s within))
+    ∙ hashed-same h (take (64 * n) s) s n (λ k below. get_or-take (64 * n) s k 0 below)

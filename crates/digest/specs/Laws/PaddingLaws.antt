@@ -1,8 +1,9 @@
 -- Laws of a message with its padding: the padding is what is stored behind the rest in the last blocks, and the digest is that of the whole blocks, then
 -- of the last ones. Assumes nothing.
 use Rattle.std.specs.Prelude.{◌≡◌, ℕ, zero, suc, ◌+◌, ◌-◌, ◌*◌, ◌/◌, ◌%◌, ◌^◌, ◌<◌, ◌≤◌, List, [], ◌∷◌, ◌++◌, length, take, drop, replicate, slice_index, refl}
+use Rattle.std.specs.Int.{to_be_bytes, w64}
 use Rattle.std.proofs.Common.{sym, ap, ap₂, ◌∙◌, pow-suc, zero-lt-suc, arith, append_assoc, length-append, length-drop}
-use Rattle.std.proofs.Math.Nat.{div-div-eq-div-mul, one-le-pow}
+use Rattle.std.proofs.Math.Nat.{one-le-pow}
 use Rattle.std.proofs.Math.Arith.{mod-mul, digits_div, digits_mod}
 use Rattle.std.proofs.lemmas.List.{length-replicate, drop-append-le}
 use Rattle.std.proofs.Math.ListN.{get_or-append}
@@ -15,7 +16,7 @@ use Rattle.digest.specs.declared.block.Hash.{Hash}
 use Rattle.digest.specs.Laws.BlockLaws.{hashed-same, hashed-more}
 use Rattle.digest.specs.Sha1.{padding, padded, hashed, initial, digest, sha1}
 
--- ---- the length in bits, stored as two words
+-- ---- the length in bits
 
 -- digits hang on the number modulo what they can hold
 digits_low : (w x : ℕ) → digits (suc w) (x % 256 ^ suc w) ≡ digits (suc w) x
@@ -31,15 +32,9 @@ digits_low (suc w) x =
     ∙ ap (λ (l : List ℕ). l ++ (x % 256 ∷ [])) (digits_low w (x / 256))
     ∙ sym (digits-snoc w x)
 
-digits-halves : (x : ℕ) → digits 8 x ≡ digits 4 (x / 4294967296) ++ digits 4 x
-digits-halves x = rw (div-div-eq-div-mul x 4294967296 16777216, div-div-eq-div-mul x 4294967296 65536, div-div-eq-div-mul x 4294967296 256)
-
-length-stored : (n : ℕ) → digits 4 (n / 536870912 % 4294967296) ++ digits 4 (n % 536870912 * 8) ≡ digits 8 (8 * n)
-length-stored n =
-    let high : n / 536870912 ≡ 8 * n / 4294967296 = omega arith in
-    let low : n % 536870912 * 8 ≡ 8 * n % 4294967296 = omega arith in
-    ap₂ ◌++◌ (digits_low 3 (n / 536870912) ∙ ap (digits 4) high) (ap (digits 4) low ∙ digits_low 3 (8 * n))
-    ∙ sym (digits-halves (8 * n))
+-- as the library writes them
+bits-stored : (n : ℕ) → to_be_bytes w64 (n * 8 % 2 ^ 64) ≡ digits 8 (8 * n)
+bits-stored n = digits_low 7 (n * 8) ∙ ap (digits 8) (omega arith)
 
 -- ---- the last blocks, set out in a buffer of zeros
 
@@ -82,14 +77,13 @@ length-padding n =
     ap suc (length-append (replicate {A = ℕ} ((119 - n % 64) % 64) 0) (digits 8 (8 * n)) ∙ ap (λ (k : ℕ). k + 8) (length-replicate ((119 - n % 64) % 64) 0))
     ∙ omega arith
 
--- the last blocks as they are stored: the rest, the byte 0x80 behind it, and the two words of the length at the end
-pub ended-stored : (h : Hash) (rest : List ℕ) (n blocks : ℕ) {t1 t2 t3 t4 : List ℕ} → length rest ≡ n % 64 → blocks ≡ (length rest + 72) / 64
+-- the last blocks as they are stored: the rest, the byte 0x80 behind it, and the length at the end
+pub ended-stored : (h : Hash) (rest : List ℕ) (n blocks : ℕ) {t1 t2 t3 bits : List ℕ} → length rest ≡ n % 64 → blocks ≡ (length rest + 72) / 64
     → t1 ≡ overwrite (replicate {A = ℕ} 128 0) 0 rest → t2 ≡ overwrite t1 (length rest) (0x80 ∷ [])
-    → t3 ≡ overwrite t2 (64 * blocks - 8) (digits 4 (n / 536870912 % 4294967296))
-    → t4 ≡ overwrite t3 (64 * blocks - 4) (digits 4 (n % 536870912 * 8))
-    → hashed h t4 blocks ≡ hashed h (rest ++ padding n) blocks
+    → bits ≡ to_be_bytes w64 (n * 8 % 2 ^ 64) → t3 ≡ overwrite t2 (64 * blocks - 8) bits
+    → hashed h t3 blocks ≡ hashed h (rest ++ padding n) blocks
 unfolding padding
-ended-stored h rest n blocks {t1} {t2} {t3} {t4} short b e1 e2 e3 e4 =
+ended-stored h rest n blocks {t1} {t2} {t3} short b e1 e2 written e3 =
     let zeros = replicate {A = ℕ} 128 0 in
     let front = rest ++ (0x80 ∷ []) in
     let z = (119 - n % 64) % 64 in
@@ -97,15 +91,13 @@ ended-stored h rest n blocks {t1} {t2} {t3} {t4} short b e1 e2 e3 e4 =
     let long : length front ≡ length rest + 1 = length-append rest (0x80 ∷ []) in
     let front-stored : t2 ≡ overwrite zeros 0 front = stored_next zeros 0 rest (0x80 ∷ []) e1 e2 (omega arith) (omega arith) in
     let whole : length t2 ≡ 128 = ap length front-stored ∙ length-overwrite zeros 0 front in
-    let back-stored : t4 ≡ overwrite t2 (64 * blocks - 8) back =
-    stored_next t2 (64 * blocks - 8) (digits 4 (n / 536870912 % 4294967296)) (digits 4 (n % 536870912 * 8)) e3 e4 (omega arith) (omega arith)
-    ∙ ap (overwrite t2 (64 * blocks - 8)) (length-stored n) in
+    let back-stored : t3 ≡ overwrite t2 (64 * blocks - 8) back = e3 ∙ ap (overwrite t2 (64 * blocks - 8)) (written ∙ bits-stored n) in
     let all = two-stores 128 front back z {p = 64 * blocks - 8} (omega arith) (omega arith)
     (back-stored ∙ ap (λ (l : List ℕ). overwrite l (64 * blocks - 8) back) front-stored) in
-    let made : t4 ≡ (rest ++ padding n) ++ all.0 = all.1 ∙ simp append_assoc in
+    let made : t3 ≡ (rest ++ padding n) ++ all.0 = all.1 ∙ simp append_assoc in
     let size : length (rest ++ padding n) ≡ 64 * blocks =
     length-append rest (padding n) ∙ ap (λ (k : ℕ). length rest + k) (length-padding n) ∙ omega arith in
-    hashed-same h t4 (rest ++ padding n) blocks
+    hashed-same h t3 (rest ++ padding n) blocks
     (λ k below. ap (λ (l : List ℕ). slice_index l k) made ∙ get_or-append (rest ++ padding n) all.0 0 k (omega arith))
 
 -- ---- the whole message

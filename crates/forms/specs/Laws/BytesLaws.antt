@@ -1,7 +1,7 @@
 -- Laws of parts of bytes, of storing over them and of comparing them. Assumes nothing.
 use Rattle.std.specs.Prelude.{◌≡◌, refl, ℕ, zero, suc, ◌+◌, ◌≤◌, ◌<◌, Bool, true, false, cond, ◌&&◌, List, [], ◌∷◌, ◌++◌, length, replicate, get_or, take, drop, ◌↔◌, leb, eqb}
 use Rattle.std.proofs.Common.{sym, ap, ap₂, ◌∙◌, subst, zero-add, add-zero, add-suc, suc-add, add_assoc, arith, append_assoc, length-append, length-take, length-drop, get_or-drop, take_all, drop-cons, take_at, drop_at, length-take-le, drop-drop, lit<, le-leb, eqb-true, eq-eqb, leb-true}
-use Rattle.std.proofs.lemmas.Bool.{false≢true, lt-leb}
+use Rattle.std.proofs.lemmas.Bool.{false≢true, lt-leb, leb-false}
 use Rattle.std.proofs.Math.Bool.{and_assoc}
 use Rattle.std.proofs.Math.ListN.{get_or-eq_default}
 use Rattle.std.proofs.lemmas.List.Edits.{sets, sets-eq}
@@ -88,6 +88,10 @@ overwrite-fits s k v h = ap (λ (b : Bool). cond b (splice s k v) s) (le-leb _ _
 pub overwrite-out : (s : List ℕ) (k : ℕ) (v : List ℕ) → length s < k + length v → overwrite s k v ≡ s
 unfolding overwrite
 overwrite-out s k v h = ap (λ (b : Bool). cond b (splice s k v) s) (lt-leb _ _ h)
+
+-- what does not fit is not stored, as a test tells it
+pub not-stored : (s : List ℕ) (k : ℕ) (v : List ℕ) (n : ℕ) {b : Bool} → b ≡ leb (k + n) (length s) → b ≡ false → n ≡ length v → s ≡ overwrite s k v
+not-stored s k v n is short long = sym (overwrite-out s k v (omega (arith, leb-false _ _ (sym is ∙ short))))
 
 -- one store a byte, from the first byte on
 pub overwrite-sets : (s : List ℕ) (k : ℕ) (v : List ℕ) → k + length v ≤ length s → sets s k v ≡ overwrite s k v

@@ -1,106 +1,108 @@
 -- Digits read one by one. Assumes nothing.
-use Rattle.std.specs.Prelude.{ℕ, suc, ◌+◌, ◌-◌, ◌*◌, ◌≤◌, ◌<◌, ◌≡◌, refl, Bool, true, false, not, cond, ◌&&◌, List, [], ◌∷◌, leb, length, take, drop, get_or}
-use Rattle.std.proofs.Common.{le_refl, add-zero, add-one, arith, sym, ap, ap₂, ◌∙◌, length-take, length-drop, drop-cons, get_or-take, get_or-drop, le-leb, eq-eqb, ne_eqb}
+use Rattle.std.specs.Prelude.{ℕ, ◌+◌, ◌-◌, ◌*◌, ◌≤◌, ◌<◌, ◌≡◌, refl, Bool, true, false, not, cond, ◌&&◌, List, [], ◌∷◌, leb, length, Option, None, Some}
+use Rattle.std.proofs.Common.{le_refl, arith, ap, le-leb, eq-eqb, ne_eqb}
 use Rattle.std.proofs.Math.Bool.{and-false}
-use Rattle.std.proofs.lemmas.Bool.{lt-leb}
+use Rattle.std.proofs.lemmas.Bool.{lt-leb, leb-true, leb-false}
 use Rattle.forms.specs.Limits.{max_word}
 use Rattle.text.specs.Text.{zero_digit, is_digit}
-use Rattle.grammar.specs.Numeral.{Figure, all_digits, value_from, unpadded, figure_of}
+use Rattle.grammar.specs.Numeral.{all_digits, value_from, unpadded, figure_of}
 
 -- ---- a number read
 
--- the number that digits stand for behind others, or one past the largest where a byte is no digit or the number is too large
-unfoldable pub value_within : ℕ → List ℕ → ℕ
-value_within n s = cond (all_digits s && leb (value_from n s) max_word) (value_from n s) (max_word + 1)
+-- a number and the digit behind it, where the byte is a digit and what they stand for is not too large
+unfoldable pub with_digit : ℕ → ℕ → Option ℕ
+with_digit n b = cond (is_digit b && leb (n * 10 + (b - zero_digit)) max_word) (Some (n * 10 + (b - zero_digit))) None
 
-pub digit-below : (b : ℕ) → b < zero_digit → is_digit b ≡ false
-digit-below b h = rw (lt-leb zero_digit b h)
-
-pub digit-above : (b : ℕ) → zero_digit + 9 < b → is_digit b ≡ false
-digit-above b h = rw (lt-leb b (zero_digit + 9) h, and-false)
+-- the number that digits stand for behind others, where each byte is a digit and what they stand for is not too large
+unfoldable pub read_behind : ℕ → List ℕ → Option ℕ
+read_behind n s = cond (all_digits s && leb (value_from n s) max_word) (Some (value_from n s)) None
 
 pub digit-within : (b : ℕ) → zero_digit ≤ b → b ≤ zero_digit + 9 → is_digit b ≡ true
 digit-within b h l = rw (le-leb zero_digit b h, le-leb b (zero_digit + 9) l)
 
-pub within_none : (n : ℕ) → n ≤ max_word → value_within n [] ≡ n
-unfolding value_within all_digits value_from
-within_none n h = rw (le-leb n max_word h)
+digit-other : (b : ℕ) → (zero_digit ≤ b → b ≤ zero_digit + 9 → ⊥) → is_digit b ≡ false
+digit-other b other = go (leb zero_digit b) (leb b (zero_digit + 9)) refl refl
+  where
+    go : (l h : Bool) → leb zero_digit b ≡ l → leb b (zero_digit + 9) ≡ h → (l && h) ≡ false
+    go true true e f = absurd (other (leb-true _ _ e) (leb-true _ _ f))
+    go true false e f = refl
+    go false h e f = refl
 
-within-digit : (n b : ℕ) (s : List ℕ) → is_digit b ≡ true → value_within n (b ∷ s) ≡ value_within (n * 10 + (b - zero_digit)) s
-unfolding value_within all_digits value_from
-within-digit n b s h = rw h
+pub no-digit : (n b : ℕ) → (zero_digit ≤ b → b ≤ zero_digit + 9 → ⊥) → with_digit n b ≡ None
+unfolding with_digit
+no-digit n b other = rw (digit-other b other)
 
-within-other : (n b : ℕ) (s : List ℕ) → is_digit b ≡ false → value_within n (b ∷ s) ≡ max_word + 1
-unfolding value_within all_digits value_from
-within-other n b s h = rw h
+pub digit-large : (n b : ℕ) → max_word < n * 10 + (b - zero_digit) → with_digit n b ≡ None
+unfolding with_digit
+digit-large n b h = rw (lt-leb (n * 10 + (b - zero_digit)) max_word h, and-false)
+
+pub digit-more : (n b : ℕ) → zero_digit ≤ b → b ≤ zero_digit + 9 → n * 10 + (b - zero_digit) ≤ max_word → with_digit n b ≡ Some (n * 10 + (b - zero_digit))
+unfolding with_digit
+digit-more n b low high h = rw (digit-within b low high, le-leb (n * 10 + (b - zero_digit)) max_word h)
+
+pub read-none : (n : ℕ) → n ≤ max_word → read_behind n [] ≡ Some n
+unfolding read_behind all_digits value_from
+read-none n h = rw (le-leb n max_word h)
 
 value_grows : (n : ℕ) (s : List ℕ) → n ≤ value_from n s
 unfolding value_from
 value_grows n [] = le_refl n
 value_grows n (b ∷ s) = omega (arith, value_grows (n * 10 + (b - zero_digit)) s)
 
-pub within-large : (n : ℕ) (s : List ℕ) → max_word < n → value_within n s ≡ max_word + 1
-unfolding value_within
-within-large n s h =
-    let large : max_word < value_from n s = omega (arith, value_grows n s) in
-    rw (lt-leb _ _ large, and-false)
+-- a digit more
+pub read-digit : (n b m : ℕ) (s : List ℕ) → with_digit n b ≡ Some m → read_behind n (b ∷ s) ≡ read_behind m s
+unfolding with_digit read_behind all_digits value_from
+read-digit n b m s e = go (is_digit b) (leb (n * 10 + (b - zero_digit)) max_word) e
+  where
+    go : (d l : Bool) → cond (d && l) (Some (n * 10 + (b - zero_digit))) None ≡ Some m
+        → cond ((d && all_digits s) && leb (value_from (n * 10 + (b - zero_digit)) s) max_word) (Some (value_from (n * 10 + (b - zero_digit)) s)) None
+        ≡ cond (all_digits s && leb (value_from m s) max_word) (Some (value_from m s)) None
+    go true true e = let same : n * 10 + (b - zero_digit) ≡ m = cc in ap (λ (k : ℕ). cond (all_digits s && leb (value_from k s) max_word) (Some (value_from k s)) None) same
+    go true false e = cc
+    go false l e = cc
 
--- the digits of a part of a line, from its first byte on
-module _ (line : List ℕ) (to i n : ℕ) (before : i < to) (inside : to ≤ length line) where
-  part-first : take (to - i) (drop i line) ≡ get_or line i 0 ∷ take (to - (i + 1)) (drop (i + 1) line)
-  part-first =
-      let more : to - i ≡ suc (to - (i + 1)) = omega arith in
-      ap₂ (λ (k : ℕ) (l : List ℕ). take k l) more (drop-cons line i 0 (omega arith))
-      ∙ ap (λ (j : ℕ). get_or line i 0 ∷ take (to - (i + 1)) (drop j line)) (sym (add-one i))
+-- a byte that is no digit, or one that makes the number too large
+pub read-stops : (n b : ℕ) (s : List ℕ) → with_digit n b ≡ None → read_behind n (b ∷ s) ≡ None
+unfolding with_digit read_behind all_digits value_from
+read-stops n b s e = go (is_digit b) (leb (n * 10 + (b - zero_digit)) max_word) refl e
+  where
+    go : (d l : Bool) → leb (n * 10 + (b - zero_digit)) max_word ≡ l → cond (d && l) (Some (n * 10 + (b - zero_digit))) None ≡ None
+        → cond ((d && all_digits s) && leb (value_from (n * 10 + (b - zero_digit)) s) max_word) (Some (value_from (n * 10 + (b - zero_digit)) s)) None ≡ None
+    go true true f e = cc
+    go true false f e =
+        let large : leb (value_from (n * 10 + (b - zero_digit)) s) max_word ≡ false = lt-leb _ _ (omega (arith, value_grows (n * 10 + (b - zero_digit)) s, leb-false _ _ f)) in
+        rw (large, and-false)
+    go false l f e = refl
 
-  pub within-next : is_digit (get_or line i 0) ≡ true
-      → value_within n (take (to - i) (drop i line)) ≡ value_within (n * 10 + (get_or line i 0 - zero_digit)) (take (to - (i + 1)) (drop (i + 1) line))
-  within-next h = ap (value_within n) part-first ∙ within-digit n (get_or line i 0) _ h
-
-  pub within-stops : is_digit (get_or line i 0) ≡ false → value_within n (take (to - i) (drop i line)) ≡ max_word + 1
-  within-stops h = ap (value_within n) part-first ∙ within-other n (get_or line i 0) _ h
+-- what is read is not too large
+pub with-digit-fits : (n b m : ℕ) → with_digit n b ≡ Some m → m ≤ max_word
+unfolding with_digit
+with-digit-fits n b m e = go (is_digit b) (leb (n * 10 + (b - zero_digit)) max_word) refl e
+  where
+    go : (d l : Bool) → leb (n * 10 + (b - zero_digit)) max_word ≡ l → cond (d && l) (Some (n * 10 + (b - zero_digit))) None ≡ Some m → m ≤ max_word
+    go true true f e = let same : n * 10 + (b - zero_digit) ≡ m = cc in omega (arith, leb-true _ _ f)
+    go true false f e = cc
+    go false l f e = cc
 
 -- ---- a figure
 
-pub length_part : (line : List ℕ) (from to : ℕ) → from ≤ to → to ≤ length line → length (take (to - from) (drop from line)) ≡ to - from
-length_part line from to h inside = simp (length-take, length-drop) (omega arith)
-
-pub part-at-first : (line : List ℕ) (from to : ℕ) → from < to → get_or (take (to - from) (drop from line)) 0 0 ≡ get_or line from 0
-part-at-first line from to h =
-    get_or-take (to - from) (drop from line) 0 0 (omega arith) ∙ get_or-drop from line 0 0 ∙ ap (λ (k : ℕ). get_or line k 0) (add-zero from)
-
-pub unpadded-first : (s : List ℕ) → 0 < length s → (1 < length s → get_or s 0 0 ≡ zero_digit → ⊥) → unpadded s ≡ true
-unpadded-first [] h other = absurd (omega arith)
-unpadded-first (b ∷ []) h other = refl
-unpadded-first (b ∷ c ∷ s) h other = ap not (ne_eqb b zero_digit (other (omega arith)))
-
-pub figure-none : figure_of [] ≡ Figure.Missing
+pub figure-padded : (s : List ℕ) → unpadded s ≡ false → figure_of s ≡ None
 unfolding figure_of
-figure-none = refl
+figure-padded s e = ap (λ (b : Bool). cond (b && (all_digits s && leb (value_from 0 s) max_word)) (Some (value_from 0 s)) None) e
 
-pub figure-padded : (s : List ℕ) → 1 < length s → get_or s 0 0 ≡ zero_digit → figure_of s ≡ Figure.Missing
-unfolding figure_of
-figure-padded [] h e = absurd (omega arith)
-figure-padded (b ∷ []) h e = absurd (omega arith)
-figure-padded (b ∷ c ∷ s) h e = rw (eq-eqb b zero_digit e)
+pub figure-read : (s : List ℕ) → unpadded s ≡ true → figure_of s ≡ read_behind 0 s
+unfolding figure_of read_behind
+figure-read s e = ap (λ (b : Bool). cond (b && (all_digits s && leb (value_from 0 s) max_word)) (Some (value_from 0 s)) None) e
 
--- a figure without padding is its value, where that is not too large
-figure-value : (s : List ℕ) → unpadded s ≡ true → figure_of s ≡ cond (leb (value_within 0 s) max_word) (Figure.Number (value_within 0 s)) Figure.Missing
-unfolding figure_of value_within
-figure-value s h =
-    ap (λ (t : Bool). cond (t && (all_digits s && leb (value_from 0 s) max_word)) (Figure.Number (value_from 0 s)) Figure.Missing) h
-    ∙ go (all_digits s) (leb (value_from 0 s) max_word) refl
-  where
-    go : (d l : Bool) → leb (value_from 0 s) max_word ≡ l
-        → cond (d && l) (Figure.Number (value_from 0 s)) Figure.Missing
-        ≡ cond (leb (cond (d && l) (value_from 0 s) (max_word + 1)) max_word) (Figure.Number (cond (d && l) (value_from 0 s) (max_word + 1))) Figure.Missing
-    go true true e = rw e
-    go true false e = refl
-    go false true e = refl
-    go false false e = refl
+-- a 0 before another byte, a byte alone, and a byte that is no 0
+pub padded-zero : (b : ℕ) (s : List ℕ) → b ≡ zero_digit → (length s ≡ 0 → ⊥) → unpadded (b ∷ s) ≡ false
+padded-zero b [] e more = absurd (more refl)
+padded-zero b (c ∷ s) e more = ap not (eq-eqb b zero_digit e)
 
-pub figure-large : (s : List ℕ) → unpadded s ≡ true → max_word < value_within 0 s → figure_of s ≡ Figure.Missing
-figure-large s h l = figure-value s h ∙ ap (λ (t : Bool). cond t (Figure.Number (value_within 0 s)) Figure.Missing) (lt-leb _ _ l)
+pub unpadded-one : (b : ℕ) (s : List ℕ) → length s ≡ 0 → unpadded (b ∷ s) ≡ true
+unpadded-one b [] none = refl
+unpadded-one b (c ∷ s) none = absurd (omega arith)
 
-pub figure-number : (s : List ℕ) → unpadded s ≡ true → value_within 0 s ≤ max_word → figure_of s ≡ Figure.Number (value_within 0 s)
-figure-number s h l = figure-value s h ∙ ap (λ (t : Bool). cond t (Figure.Number (value_within 0 s)) Figure.Missing) (le-leb _ _ l)
+pub unpadded-other : (b : ℕ) (s : List ℕ) → (b ≡ zero_digit → ⊥) → unpadded (b ∷ s) ≡ true
+unpadded-other b [] other = refl
+unpadded-other b (c ∷ s) other = ap not (ne_eqb b zero_digit other)

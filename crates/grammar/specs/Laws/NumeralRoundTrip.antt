@@ -1,5 +1,5 @@
 -- Reading and writing of figures are inverse to each other. Assumes nothing.
-use Rattle.std.specs.Prelude.{ℕ, zero, suc, ◌+◌, ◌-◌, ◌*◌, ◌/◌, ◌%◌, ◌^◌, ◌≤◌, ◌<◌, ◌≡◌, refl, Bool, true, false, not, cond, ◌&&◌, List, [], ◌∷◌, ◌++◌, eqb, leb, ltb, length}
+use Rattle.std.specs.Prelude.{ℕ, zero, suc, ◌+◌, ◌-◌, ◌*◌, ◌/◌, ◌%◌, ◌^◌, ◌≤◌, ◌<◌, ◌≡◌, refl, Bool, true, false, not, cond, ◌&&◌, List, [], ◌∷◌, ◌++◌, eqb, leb, ltb, length, Some, None}
 use Rattle.std.proofs.Common.{le_trans, mod-lt, pow-suc, one-mul, div-lt_iff_lt-mul, le-div_iff_mul-le, div-add-mod', mul_assoc, mul-le-mul_right, arith, sym, ap, ap₂, ◌∙◌, subst, append_assoc, append-nil, length-append, lt-ltb, le-ltb, ltb-true, ltb-false, le-leb, leb-true, leb-false, ne_eqb}
 use Rattle.std.proofs.Math.Nat.{pow-succ', div-eq_of_lt-le, pow-le-pow_right}
 use Rattle.std.proofs.lemmas.Bool.{false≢true, eqb-false, not-true}
@@ -7,7 +7,7 @@ use Rattle.forms.specs.Limits.{max_word}
 use Rattle.forms.specs.Laws.TestsLaws.{both}
 use Rattle.text.specs.Line.{numeral, numeral_in, max_digits}
 use Rattle.text.specs.Text.{zero_digit, is_digit}
-use Rattle.grammar.specs.Numeral.{Figure, all_digits, value_from, value_of, unpadded, figure_of}
+use Rattle.grammar.specs.Numeral.{all_digits, value_from, value_of, unpadded, figure_of}
 use Rattle.grammar.specs.Laws.NumeralLaws.{digit-within}
 
 -- ---- one digit more
@@ -97,7 +97,7 @@ numeral-unpadded places n h = go (ltb n 10) refl
         let tens : 0 < n / 10 = (le-div_iff_mul-le {k = 10} (omega arith)).1 (omega (arith, ltb-false n 10 e)) in
         headed-unpadded _ (headed-more _ _ (numeral-headed places (n / 10) tens (tens-fit places n h)))
 
-pub read-numeral : (n : ℕ) → n ≤ max_word → figure_of (numeral n) ≡ Figure.Number n
+pub read-numeral : (n : ℕ) → n ≤ max_word → figure_of (numeral n) ≡ Some n
 unfolding figure_of
 read-numeral n h =
     let small : n < 10 ^ 10 = omega arith in
@@ -202,11 +202,11 @@ few-digits s u d v = go (leb (length s) max_digits) refl
         let l : max_digits < length s = leb-false _ _ e in
         absurd (omega (arith, headed-value s 10 (first s (omega arith) u) d l))
 
-pub numeral-read : (s : List ℕ) (n : ℕ) → figure_of s ≡ Figure.Number n → s ≡ numeral n
+pub numeral-read : (s : List ℕ) (n : ℕ) → figure_of s ≡ Some n → s ≡ numeral n
 unfolding figure_of
 numeral-read s n e = go (unpadded s && (all_digits s && leb (value_of s) max_word)) refl e
   where
-    go : (t : Bool) → (unpadded s && (all_digits s && leb (value_of s) max_word)) ≡ t → cond t (Figure.Number (value_of s)) Figure.Missing ≡ Figure.Number n
+    go : (t : Bool) → (unpadded s && (all_digits s && leb (value_of s) max_word)) ≡ t → cond t (Some (value_of s)) None ≡ Some n
         → s ≡ numeral n
     go false p e = let z : ◌≡◌ {A = ℕ} 0 1 = cc in absurd (omega arith)
     go true p e =

@@ -1,14 +1,16 @@
 -- A sound image that the code finds is that of a state which fits: what is not at its end has room. Assumes nothing.
 use Rattle.std.specs.Prelude.{◌≡◌, ℕ, ◌≤◌, ◌<◌, true, List, length}
-use Rattle.std.proofs.Common.{sym, ap, ◌∙◌, arith}
+use Rattle.std.proofs.Common.{sym, ap, arith}
 use Rattle.forms.specs.Bytes.{Bytes}
 use Rattle.forms.specs.Entry.{units}
-use Rattle.forms.specs.Limits.{max_word, max_counters, max_units}
+use Rattle.forms.specs.Limits.{max_word, image_log_offset, max_counters, max_units}
+use Rattle.forms.specs.Laws.LogLaws.{walk_ends}
+use Rattle.forms.specs.Laws.RequestLaws.{length-requests}
 use Rattle.forms.specs.declared.log.LogEnd.{LogEnd}
-use Rattle.log_image.specs.Laws.EndLaws.{held-units}
-use Rattle.log_image.specs.Laws.ImageRoundTrip.{StateFits, encode-decode, decode-fits, sound-laid-out}
+use Rattle.log_image.specs.Laws.EndLaws.{end-held, held-units}
+use Rattle.log_image.specs.Laws.ImageRoundTrip.{StateFits, encode-decode, decode-fits, laid-out-parts, sound-laid-out}
 use Rattle.log_image.specs.Sound.{sound}
-use Rattle.log_image.specs.State.{decode, encode, log_end}
+use Rattle.log_image.specs.State.{decode, encode, entry_count, log_end}
 
 module _ (s : List ℕ) (bytes : Bytes s) (is-sound : sound s ≡ true) where
   -- it is the image of its state, which fits
@@ -28,8 +30,15 @@ module _ (s : List ℕ) (bytes : Bytes s) (is-sound : sound s ≡ true) where
   pub record-room : (length (decode s).records ≡ max_counters → ⊥) → length (decode s).records < max_counters
   record-room some = omega (arith, state-fits.counters, some)
 
-  -- what the code finds of the log
-  pub found-units : (end : LogEnd) → end ≡ log_end s → (end.units ≡ units (decode s).log) × (end.units ≤ max_units)
-  found-units end found =
-      let counted : end.units ≡ units (decode s).log = ap (λ (e : LogEnd). e.units) found ∙ held-units s (sound-laid-out s is-sound) in
-      (counted, omega (arith, counted, state-fits.units))
+-- what the code finds of a sound image's log
+pub found_units : (s : List ℕ) → sound s ≡ true → (log_end s).units ≡ units (decode s).log
+found_units s is-sound = held-units s (sound-laid-out s is-sound)
+
+pub few_units : (s : List ℕ) → sound s ≡ true → (log_end s).units ≤ max_units
+few_units s is-sound =
+    let laid = sound-laid-out s is-sound in
+    let all = (walk_ends s image_log_offset (entry_count s) _ (laid-out-parts s laid).walked).2 in
+    omega (arith, all, ap (λ (end : LogEnd). end.units) (end-held s laid))
+
+-- what is asked of them, and of the requests behind them
+pub ruleset log_room = (found_units, few_units, length-requests)

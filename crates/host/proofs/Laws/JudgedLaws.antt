@@ -1,11 +1,16 @@
 -- What the code has of a batch half judged, request by request. Assumes nothing.
-use Rattle.std.specs.Prelude.{◌≡◌, refl, ℕ, zero, suc, ◌+◌, ◌-◌, ◌*◌, ◌≤◌, ◌<◌, Bool, true, false, cond, eqb, length, get_or, replicate, set, take, drop, List, [], ◌∷◌, ◌++◌}
+use Rattle.std.specs.Prelude.{◌≡◌, refl, ℕ, zero, suc, ◌+◌, ◌-◌, ◌*◌, ◌≤◌, ◌<◌, Bool, true, false, cond, eqb, length, get_or, replicate, set, take, drop, List, [], ◌∷◌, ◌++◌, Result, Ok, Err}
 use Rattle.std.proofs.Common.{sym, ap, ap₂, ◌∙◌, arith, length-append, take-append-drop, take_at, eq-eqb, ne_eqb, subst, append_assoc, append-nil}
 use mathlib.Core.List.{foldl, foldl-append}
 use Rattle.std.proofs.lemmas.List.{set_at}
 use Rattle.forms.specs.Bytes.{Bytes, overwrite, window}
 use Rattle.forms.specs.Laws.BytesLaws.{length-overwrite, length-window, window-part, overwrite-fits}
 use Rattle.forms.specs.Limits.{max_requests, request_len}
+use Rattle.forms.specs.Refusal.{outcome_number, refusal_number}
+use Rattle.forms.specs.declared.refusal.Refusal.{Refusal}
+use Rattle.std.specs.Result.{is_err}
+use Rattle.std.proofs.lemmas.Bool.{false≢true}
+use Rattle.host.proofs.Laws.SettledLaws.{some_number}
 use Rattle.forms.specs.Request.{RequestsFit, none, one_more, request_at, request_bytes, requests_at, joined}
 use Rattle.forms.specs.Laws.RequestLaws.{joined-append, joined_length, request-fit, request-window, requests-bytes, requests-fit-append}
 use Rattle.forms.specs.declared.request.Request.{Request}
@@ -27,6 +32,15 @@ stands-requests b done j s =
     ∙ requests-bytes b.passed (drop k j.passed) s.fit
 
 -- ---- a request's number kept
+
+-- its outcome is told by it
+pub ok-number : (outcome : Result (Unit {0}) Refusal) → is_err outcome ≡ false → outcome_number outcome ≡ 0
+ok-number (Ok a) e = refl
+ok-number (Err refusal) e = absurd (false≢true (sym e))
+
+pub err-number : (outcome : Result (Unit {0}) Refusal) → is_err outcome ≡ true → outcome_number outcome ≡ 0 → ⊥
+err-number (Ok a) e zero-number = false≢true e
+err-number (Err refusal) e zero-number = false≢true (sym (some_number refusal) ∙ eq-eqb (refusal_number refusal) 0 zero-number)
 
 -- where it is refused
 pub number-kept : (j : Judged) (requests : List ℕ) (i number : ℕ) → (number ≡ 0 → ⊥)

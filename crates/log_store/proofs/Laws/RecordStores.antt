@@ -1,6 +1,6 @@
 -- The stores of one record into the image of a state: written over at its counter's index, whatever the change, and put behind the others. Assumes
 -- nothing.
-use Rattle.std.specs.Prelude.{◌≡◌, Bool, true, false, ltb, length, set, refl, ℕ, ◌+◌, ◌*◌, ◌<◌, min, cond, List, [], ◌∷◌}
+use Rattle.std.specs.Prelude.{◌≡◌, Bool, true, false, Option, Some, None, ltb, length, set, refl, ℕ, ◌+◌, ◌*◌, ◌<◌, min, cond, List, [], ◌∷◌}
 use Rattle.std.proofs.Common.{sym, subst, ◌∙◌, arith, lit<, lt-ltb, ap}
 use Rattle.forms.specs.Bytes.{Bytes, overwrite}
 use Rattle.forms.specs.Limits.{records_offset, record_len, max_counters}
@@ -21,7 +21,7 @@ use Rattle.log_store.proofs.Laws.StoreLaws.{append-record, replace-record}
 use Rattle.log_store.proofs.Laws.EachRecordLaws.{updated_set}
 use Rattle.log_store.specs.Effect.{Change, changed_by, confirmed_by, opened, updated_state}
 use Rattle.log_store.proofs.Laws.FoundLaws.{found-record, image-counters, image-has, image_holds}
-use Rattle.log_store.specs.Store.{counters_with, index_in, record_added, record_changed, record_place}
+use Rattle.log_store.specs.Store.{counters_added, index_in, record_added, record_changed, record_place}
 
 -- a state with another record at an index
 abbrev set_state : State → ℕ → Record → State
@@ -101,7 +101,8 @@ module _ (st : State) (fits : StateFits st) where
         ∙ ap (λ (b : Bool). cond b (stores (length st.records)) s) (lt-ltb (length st.records) max_counters room)
         ∙ append-record st (taken c) room
 
-    pub added-counted : counters_with (encode st) ≡ length st.records + 1
+    pub added-counted : counters_added (encode st) ≡ Some (length st.records + 1)
     added-counted =
-        ap (λ (n : ℕ). cond (ltb n max_counters) (n + 1) n) (image-counters st fits)
-        ∙ ap (λ (b : Bool). cond b (length st.records + 1) (length st.records)) (lt-ltb (length st.records) max_counters room)
+        let answer : Bool → ℕ → Option ℕ = λ b n. cond b (Some (cond b (n + 1) n)) None in
+        ap (λ (n : ℕ). answer (ltb n max_counters) n) (image-counters st fits)
+        ∙ ap (λ (b : Bool). answer b (length st.records)) (lt-ltb (length st.records) max_counters room)

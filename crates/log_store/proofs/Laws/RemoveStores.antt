@@ -1,6 +1,7 @@
 -- A counter's record taken out of the image of a state, those behind it moved down. Assumes nothing.
-use Rattle.std.specs.Prelude.{◌≡◌, ℕ, zero, suc, ◌+◌, ◌-◌, ◌*◌, ◌≤◌, ◌<◌, min, Bool, true, false, List, [], ◌∷◌, ◌++◌, length, replicate, take, drop, refl, cond}
+use Rattle.std.specs.Prelude.{◌≡◌, ℕ, zero, suc, ◌+◌, ◌-◌, ◌*◌, ◌≤◌, ◌<◌, min, Bool, true, false, Option, Some, None, List, [], ◌∷◌, ◌++◌, length, replicate, take, drop, refl, cond}
 use Rattle.std.proofs.Common.{sym, ap₂, ◌∙◌, arith, ltb-true, ap}
+use Rattle.std.proofs.lemmas.List.Edits.{length-remove}
 use Rattle.forms.specs.Bytes.{Bytes, window, overwrite}
 use Rattle.forms.specs.Limits.{records_offset, record_len, max_counters}
 use Rattle.forms.specs.Number.{digits}
@@ -13,8 +14,8 @@ use Rattle.log_image.specs.Laws.ImageRoundTrip.{StateFits, decode-encode, encode
 use Rattle.log_image.specs.Laws.RecordsLaws.{holds-index}
 use Rattle.log_image.specs.Sound.{holds, index_of, laid_out, record_of}
 use Rattle.log_image.specs.State.{Record, State, records_at, records_bytes, counter_count, decode, encode, counters_place}
-use Rattle.log_store.proofs.Laws.StoreLaws.{length_removed, remove-record}
-use Rattle.log_store.specs.Store.{index_in, proofs_of, record_place, record_removed, vacated}
+use Rattle.log_store.proofs.Laws.StoreLaws.{remove-record}
+use Rattle.log_store.specs.Store.{index_in, proofs_removed, record_place, record_removed, vacated}
 use Rattle.log_store.specs.Effect.{with_records, without}
 use Rattle.log_store.proofs.Laws.FoundLaws.{few-counters, found-record, image-has, image_holds}
 
@@ -36,7 +37,7 @@ length_without : (rs : List Record) (id : CounterId) → holds rs id ≡ true �
 length_without rs id held =
     let i = index_of rs id in
     let within : i < length rs = ltb-true _ _ (sym (holds-index rs id) ∙ held) in
-    ap length (without-index rs id) ∙ length_removed rs i within
+    ap length (without-index rs id) ∙ (omega (arith, length-remove rs i within))
 
 without-records-fit : (rs : List Record) (id : CounterId) → RecordsFit rs → RecordsFit (without rs id)
 unfolding without
@@ -117,10 +118,11 @@ module _ (st : State) (fits : StateFits st) (id : CounterId) (held : holds st.re
       ∙ remove-stored s id (index_in s id) (encode-bytes st fits) (encode-laid-out st fits) (image_holds st fits id held) refl
       ∙ ap (λ (x : State). encode (with_records x (without x.records id))) (decode-encode st fits)
 
-  pub removed-proofs : proofs_of (encode st) id ≡ (record_of st.records id).proofs
+  pub removed-proofs : proofs_removed (encode st) id ≡ Some (record_of st.records id).proofs
   removed-proofs =
       let s = encode st in
       let here = found-record s id (index_in s id) (few-counters st fits) (image_holds st fits id held) refl in
-      ap (λ (b : Bool). cond b (record_at s (record_place (index_in s id))).proofs 0) (image-has st fits id held)
-      ∙ ap (λ (r : Record). r.proofs) (sym here.own)
-      ∙ ap (λ (x : State). (record_of x.records id).proofs) (decode-encode st fits)
+      let answer : Bool → Option ℕ = λ b. cond b (Some (cond b (record_at s (record_place (index_in s id))).proofs 0)) None in
+      ap answer (image-has st fits id held)
+      ∙ ap (λ (r : Record). Some r.proofs) (sym here.own)
+      ∙ ap (λ (x : State). Some (record_of x.records id).proofs) (decode-encode st fits)

@@ -1,10 +1,10 @@
 -- A tablet's act, from the answers of the host and of the desk that it goes by. Assumes nothing.
 use Rattle.std.specs.Prelude.{◌≡◌, Bool, true, false, cond, ℕ, length, take, List}
+use Rattle.desk_table.specs.Answer.{Answer}
 use Rattle.std.proofs.Common.{ap₂, ◌∙◌, arith, eq-eqb, ne_eqb, sym, ap}
 use Rattle.forms.specs.declared.terms.CounterId.{CounterId}
 use Rattle.validity.specs.declared.proof.Kind.{Kind}
 use Rattle.desk_table.specs.Desk.{verified}
-use Rattle.desk_table.specs.declared.answer.Answer.{Answer}
 use Rattle.host.specs.Host.{prove_call, prove_output}
 use Rattle.host.specs.declared.answer.Figures.{Figures}
 use Rattle.console.specs.Step.{empty_output, raised_once, yes_for}

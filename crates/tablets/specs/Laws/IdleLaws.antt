@@ -4,6 +4,7 @@ use Rattle.std.specs.Prelude.{get_or, drop}
 use Rattle.std.proofs.Common.{sym, ap, subst, ◌∙◌, div-add-mod', div-lt_iff_lt-mul, div-mul-le_self, mul-le-mul_right, arith, eq-eqb, ne_eqb, add-one}
 use Rattle.std.proofs.Common.{drop_of_length-le, drop-cons}
 use Rattle.std.proofs.Math.Nat.{lt-div-mul-add}
+use mathlib.Core.List.{foldl}
 use Rattle.tablets.specs.Laws.Idle.{never, next_round, next_turn}
 use Rattle.tablets.specs.Rounds.{divides, turns_from}
 use Rattle.tablets.specs.Tablet.{Tablet}
@@ -63,6 +64,16 @@ pub next-bound : (ts : List Tablet) (done : ℕ) → next_round ts done ≤ neve
 unfolding next_round
 next-bound [] done = omega arith
 next-bound (t ∷ ts) done = omega (arith, next-bound ts done)
+
+-- the nearer one of a turn and of theirs, tablet by tablet
+pub next-nearest : (ts : List Tablet) (done n : ℕ) → n ≤ never
+    → foldl (λ (m : ℕ) (t : Tablet). min m (next_turn t.period done)) n ts ≡ min n (next_round ts done)
+unfolding next_round
+next-nearest [] done n h = omega arith
+next-nearest (t ∷ ts) done n h =
+    let rest : foldl (λ (m : ℕ) (u : Tablet). min m (next_turn u.period done)) (min n (next_turn t.period done)) ts
+    ≡ min (min n (next_turn t.period done)) (next_round ts done) = next-nearest ts done (min n (next_turn t.period done)) (omega arith) in
+    rest ∙ omega arith
 
 pub round-idle : (ts : List Tablet) (done round number : ℕ) → done < round → round < next_round ts done → turns_from round number ts ≡ []
 unfolding next_round turns_from

@@ -1,7 +1,7 @@
 -- Bytes stored in a text, with room for them and without, a number's digits as the library `io` writes them, and words with figures in them,
 -- one byte after the other. Assumes nothing.
 use Rattle.std.specs.Prelude.{ℕ, zero, suc, ◌+◌, ◌-◌, ◌/◌, ◌%◌, ◌^◌, ◌≤◌, ◌<◌, ◌≡◌, refl, Bool, true, false, cond, List, [], ◌∷◌, ◌++◌, leb, ltb, length, get_or, take, drop, replicate}
-use Rattle.std.proofs.Common.{le_refl, add_comm, add-zero, mod-lt, mod-eq_of_lt, pow-suc, div-lt_iff_lt-mul, le-div_iff_mul-le, add-one, arith, sym, ap, ap₂, ◌∙◌, length-append, take-append-drop, lt-ltb, le-ltb, ltb-true, ltb-false, le-leb, leb-true, leb-false, eq-eqb, ne_eqb}
+use Rattle.std.proofs.Common.{le_refl, add_comm, add-zero, mod-lt, mod-eq_of_lt, pow-suc, div-lt_iff_lt-mul, le-div_iff_mul-le, add-one, arith, sym, ap, ap₂, ◌∙◌, length-append, length-drop, drop-cons, drop_of_length-le, take-append-drop, lt-ltb, le-ltb, ltb-true, ltb-false, le-leb, leb-true, leb-false, eq-eqb, ne_eqb}
 use Rattle.std.proofs.Math.Nat.{one-le-pow, pow-le-pow_right}
 use Rattle.std.proofs.Math.Seq.{take-append_seam}
 use Rattle.std.proofs.lemmas.Bool.{lt-leb}
@@ -137,6 +137,21 @@ figure-there figures place h = rw (lt-ltb _ _ h)
 pub figure-missing : (figures : List ℕ) (place : ℕ) → length figures ≤ place → figure_at figures place ≡ []
 unfolding figure_at
 figure-missing figures place h = rw (le-ltb _ _ h)
+
+-- the figures behind those asked for begin with the one asked for next, or there is none
+
+pub figure-next : (figures : List ℕ) (asked : ℕ) {figure : ℕ} {rest : List ℕ} → figure ∷ rest ≡ drop asked figures
+    → (figure_at figures asked ≡ spaced figure) × (rest ≡ drop (asked + 1) figures)
+figure-next figures asked {figure} {rest} e =
+    let within : asked < length figures = omega (arith, ap length e, length-drop asked figures) in
+    let first : figure ∷ rest ≡ get_or figures asked 0 ∷ drop (suc asked) figures = e ∙ drop-cons figures asked 0 within in
+    (figure-there figures asked within ∙ ap spaced cc, rw add-one cc)
+
+pub figure-none : (figures : List ℕ) (asked : ℕ) → length (drop asked figures) ≡ 0
+    → (figure_at figures asked ≡ []) × (drop asked figures ≡ drop (asked + 1) figures)
+figure-none figures asked e =
+    let past : length figures ≤ asked = omega (arith, e, length-drop asked figures) in
+    (figure-missing figures asked past, drop_of_length-le figures past ∙ sym (drop_of_length-le figures (omega arith)))
 
 -- a byte of the words more, as the code puts it
 pub figure-filled : (figures : List ℕ) (f : Filled) (b : ℕ) {text : List ℕ} {end asked : ℕ} → b ≡ 35

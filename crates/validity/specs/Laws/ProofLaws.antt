@@ -1,8 +1,8 @@
 -- Laws of the validity proof's form: its limits, what bytes that read as a proof are like, and its parts stored one behind the other.
 -- Assumes nothing.
-use Rattle.std.specs.Prelude.{◌≡◌, refl, ℕ, ◌+◌, ◌≤◌, Bool, true, false, not, cond, eqb, ltb, List, ◌++◌, drop, length}
+use Rattle.std.specs.Prelude.{◌≡◌, refl, ℕ, ◌+◌, ◌≤◌, true, false, not, eqb, ltb, List, ◌++◌, drop, length, Ok}
 use Rattle.std.proofs.Common.{sym, ap, ◌∙◌, arith, lit≤, le-ltb, ltb-false, eq-eqb, eqb-true, zero-add, length-append}
-use Rattle.std.proofs.lemmas.Bool.{eqb-false, not-false}
+use Rattle.std.proofs.lemmas.Bool.{eqb-false}
 use Rattle.forms.specs.Bytes.{overwrite}
 use Rattle.forms.specs.Laws.BytesLaws.{overwrite-fits, stored_next}
 use Rattle.forms.specs.Confirmation.{confirmation_bytes}
@@ -11,14 +11,13 @@ use Rattle.forms.specs.Certificate.{certificate_bytes}
 use Rattle.forms.specs.declared.certificate.Certificate.{Certificate}
 use Rattle.forms.specs.Entry.{offset_at}
 use Rattle.forms.specs.Limits.{nonce_len, max_units, proof_header_len, max_proof_len}
-use Rattle.forms.specs.declared.log.Walked.{Walked}
 use Rattle.forms.specs.Log.{ends_at, walk}
 use Rattle.forms.specs.Laws.LogLaws.{end_at, ends-fully, ends-offset, walk-bound}
 use Rattle.forms.specs.Number.{be32}
 use Rattle.forms.specs.Laws.PartsLaws.{confirmation-length, certificate-length}
 use Rattle.forms.specs.Laws.TestsLaws.{both, neither}
 use Rattle.validity.specs.Proof.{Kind, Proof, nothing_raised, miscounted, confirmation_offset, certificate_offset, log_offset}
-use Rattle.validity.specs.Proof.{Parsed, known_form, shape_at, overcounted, proof_laid_out, parsed, read_number, header_of, header_bytes, fields_of, proof_bytes}
+use Rattle.validity.specs.Proof.{known_form, shape_at, proof_laid_out, parsed, read_number, header_of, header_bytes, fields_of, proof_bytes}
 
 -- ---- limits
 
@@ -83,7 +82,7 @@ pub record Reads (s : List ℕ) : Type 0 where
   pub laid : LaidOut s (shape_at s)
 
 -- they read as the proof that the header gives
-pub reads-parsed : (s : List ℕ) → Reads s → parsed s ≡ Parsed.Proof (shape_at s)
+pub reads-parsed : (s : List ℕ) → Reads s → parsed s ≡ Ok (shape_at s)
 unfolding parsed
 reads-parsed s r =
     simp (
@@ -94,56 +93,34 @@ reads-parsed s r =
       ap not (laid-out-yes s (shape_at s) r.laid),
     )
 
-passed : (a b c d e : Bool) (p : Proof)
-    → read_number (cond a Parsed.TooShort (cond b Parsed.UnknownForm (cond c Parsed.BadCount (cond d Parsed.BadCount (cond e Parsed.BadLayout (Parsed.Proof p)))))) ≡ 0
-    → (a ≡ false) × (b ≡ false) × (c ≡ false) × (e ≡ false)
-passed true b c d e p z = let no : ⊥ = omega arith in absurd no
-passed false true c d e p z = let no : ⊥ = omega arith in absurd no
-passed false false true d e p z = let no : ⊥ = omega arith in absurd no
-passed false false false true e p z = let no : ⊥ = omega arith in absurd no
-passed false false false false true p z = let no : ⊥ = omega arith in absurd no
-passed false false false false false p z = (refl, refl, refl, refl)
-
 -- number 0 means that every check has passed
 pub parsed-reads : (s : List ℕ) → read_number (parsed s) ≡ 0 → Reads s
 unfolding parsed
 parsed-reads s e =
     let p = shape_at s in
-    let rows =
-    passed (ltb (length s) proof_header_len) (not (known_form s)) (miscounted p) (overcounted s (log_offset p.kind) p.count) (not (proof_laid_out s p)) p e in
-    record {
-      header = ltb-false _ _ rows.0;
-      known = not-false _ rows.1;
-      counted = rows.2;
-      laid = laid-out-parts s p (not-false _ rows.3);
-    }
-
-shape_of : Parsed → Proof → Proof
-shape_of Parsed.TooShort p = p
-shape_of Parsed.UnknownForm p = p
-shape_of Parsed.BadCount p = p
-shape_of Parsed.BadLayout p = p
-shape_of (Parsed.Proof q) p = q
+    let laid : proof_laid_out s p ≡ true = grind arith in
+    record { header = grind arith; known = grind arith; counted = grind arith; laid = laid-out-parts s p laid }
 
 -- bytes that read as a proof read as the one that their header gives
-pub parsed-shape : (s : List ℕ) (p : Proof) → parsed s ≡ Parsed.Proof p → p ≡ shape_at s
-unfolding shape_of
-parsed-shape s p e = ap (λ (r : Parsed). shape_of r p) (sym e ∙ reads-parsed s (parsed-reads s (ap read_number e)))
+pub parsed-shape : (s : List ℕ) (p : Proof) → parsed s ≡ Ok p → p ≡ shape_at s
+parsed-shape s p e =
+    let same = sym e ∙ reads-parsed s (parsed-reads s (ap read_number e)) in
+    grind arith
 
 -- and its count is within the limits
-pub parsed-counted : (s : List ℕ) (p : Proof) → parsed s ≡ Parsed.Proof p → miscounted p ≡ false
+pub parsed-counted : (s : List ℕ) (p : Proof) → parsed s ≡ Ok p → miscounted p ≡ false
 parsed-counted s p e = ap miscounted (parsed-shape s p e) ∙ (parsed-reads s (ap read_number e)).counted
 
 -- the walk over its entries ends with the bytes
-pub parsed-ends : (s : List ℕ) (p : Proof) → parsed s ≡ Parsed.Proof p → ends_at (walk s (log_offset p.kind) p.count) (length s) ≡ true
+pub parsed-ends : (s : List ℕ) (p : Proof) → parsed s ≡ Ok p → ends_at (walk s (log_offset p.kind) p.count) (length s) ≡ true
 parsed-ends s p e =
     ap (λ (q : Proof). ends_at (walk s (log_offset q.kind) q.count) (length s)) (parsed-shape s p e) ∙ (parsed-reads s (ap read_number e)).laid.lent
 
-pub parsed-walk : (s : List ℕ) (p : Proof) → parsed s ≡ Parsed.Proof p
-    → walk s (log_offset p.kind) p.count ≡ Walked.End (end_at s (log_offset p.kind) p.count)
+pub parsed-walk : (s : List ℕ) (p : Proof) → parsed s ≡ Ok p
+    → walk s (log_offset p.kind) p.count ≡ Ok (end_at s (log_offset p.kind) p.count)
 parsed-walk s p e = (ends-offset s (log_offset p.kind) p.count (length s) (parsed-ends s p e)).0
 
-pub parsed-length : (s : List ℕ) (p : Proof) → parsed s ≡ Parsed.Proof p → length s ≡ offset_at s (log_offset p.kind) p.count
+pub parsed-length : (s : List ℕ) (p : Proof) → parsed s ≡ Ok p → length s ≡ offset_at s (log_offset p.kind) p.count
 parsed-length s p e = sym (ends-offset s (log_offset p.kind) p.count (length s) (parsed-ends s p e)).1
 
 -- ---- the parts stored one behind the other

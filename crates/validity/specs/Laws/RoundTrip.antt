@@ -1,8 +1,7 @@
 -- Reading and writing a validity proof are inverse to each other: demand 2, "A proof written from fields reads as those fields, and bytes that
 -- read as a proof are the only ones so written". Assumes nothing.
-use Rattle.std.specs.Prelude.{◌≡◌, refl, ℕ, ◌+◌, ◌≤◌, Bool, true, false, not, cond, ◌||◌, List, [], ◌++◌, length, drop, eqb, ltb}
+use Rattle.std.specs.Prelude.{◌≡◌, refl, ℕ, ◌+◌, ◌≤◌, Bool, true, false, ◌||◌, List, [], ◌++◌, length, drop, eqb, Ok}
 use Rattle.std.proofs.Common.{sym, ap, ap₂, ◌∙◌, subst, arith, length-append, length-drop, take-append-drop, take_at, drop_at, le-ltb, eqb-true, ne_eqb}
-use Rattle.std.proofs.lemmas.Bool.{not-false}
 use Rattle.forms.specs.Bytes.{Bytes, window}
 use Rattle.forms.specs.Laws.BytesLaws.{window-part, window-append, length-window}
 use Rattle.forms.specs.Laws.EntryLaws.{offset-grows}
@@ -18,7 +17,7 @@ use Rattle.forms.specs.Certificate.{certificate_at, certificate_bytes}
 use Rattle.forms.specs.declared.certificate.Certificate.{Certificate}
 use Rattle.forms.specs.Laws.PartsLaws.{CertificateFits, confirmation-window, certificate-window}
 use Rattle.forms.specs.Laws.TestsLaws.{both}
-use Rattle.validity.specs.Proof.{Kind, Parsed, kind_number, kind_of, known_kind, known_form, shape_at, miscounted, overcounted, log_offset, parsed, read_number, Written, written, write_number}
+use Rattle.validity.specs.Proof.{Kind, kind_number, kind_of, known_kind, known_form, shape_at, miscounted, log_offset, parsed, read_number, written, write_number}
 use Rattle.validity.specs.Laws.ProofLaws.{LaidOut, Reads, reads-parsed, parsed-reads, count-bound, count-some, proof_len-bound}
 use Rattle.validity.specs.Proof.{Fields, read, increment, shape_of, header_of, header_bytes, proof_bytes, proof_fields, fields_of}
 
@@ -38,26 +37,12 @@ pub written-taken : (kind : ℕ) (confirmation : Confirmation) (certificate : Ce
     → ConfirmationFits confirmation → CertificateFits certificate → write_number (written kind count entries room) ≡ 0
     → Takes (fields_of (kind_of kind) confirmation certificate count entries)
 unfolding written
-written-taken kind confirmation certificate count entries room cf kf e =
-    go (not (known_kind kind)) (overcounted entries 0 count) (not (ends_at (walk entries 0 count) (length entries)))
-    (ltb room (log_offset (kind_of kind) + length entries)) (kind_of kind) (miscounted (record { kind = kind_of kind; count = count })) refl refl e
+written-taken kind confirmation certificate count entries room cf kf e = given (kind_of kind) (grind arith) (grind arith)
   where
     given : (k : Kind) → miscounted (record { kind = k; count = count }) ≡ false → ends_at (walk entries 0 count) (length entries) ≡ true
         → Takes (fields_of k confirmation certificate count entries)
     given Kind.Read m w = (record { fits = cf; few = count-bound (record { kind = Kind.Read; count = count }) m; whole = w }, kf)
     given Kind.Increment m w = (record { fits = cf; few = count-bound (record { kind = Kind.Increment; count = count }) m; whole = w }, count-some count m)
-
-    go : (a o c d : Bool) (k : Kind) (b : Bool) → miscounted (record { kind = k; count = count }) ≡ b
-        → not (ends_at (walk entries 0 count) (length entries)) ≡ c
-        → write_number (cond a Written.UnknownKind (cond b Written.BadCount (cond o Written.BadCount (cond c Written.BadEntries (cond d Written.NoRoom
-        (Written.Length (log_offset k + length entries))))))) ≡ 0
-        → Takes (fields_of k confirmation certificate count entries)
-    go true o c d k b m w z = let no : ⊥ = omega arith in absurd no
-    go false o c d k true m w z = let no : ⊥ = omega arith in absurd no
-    go false true c d k false m w z = let no : ⊥ = omega arith in absurd no
-    go false false true d k false m w z = let no : ⊥ = omega arith in absurd no
-    go false false false true k false m w z = let no : ⊥ = omega arith in absurd no
-    go false false false false k false m w z = given k m (not-false _ w)
 
 -- ---- what is written reads as it was given
 
@@ -113,7 +98,7 @@ ends-behind s entries log count e h whole =
 
 read-reads : (confirmation : Confirmation) (certificate : Certificate) (count : ℕ) (entries : List ℕ)
     → Taken confirmation count entries → CertificateFits certificate
-    → parsed (proof_bytes (read confirmation certificate count entries)) ≡ Parsed.Proof (record { kind = Kind.Read; count = count })
+    → parsed (proof_bytes (read confirmation certificate count entries)) ≡ Ok (record { kind = Kind.Read; count = count })
 unfolding proof_bytes header_of header_bytes confirmation_bytes certificate_bytes
 read-reads confirmation certificate count entries taken fits =
     let s = proof_bytes (read confirmation certificate count entries) in
@@ -134,11 +119,11 @@ read-reads confirmation certificate count entries taken fits =
         log = refl;
       });
     })
-    ∙ ap Parsed.Proof shape
+    ∙ ap Ok shape
 
 increment-reads : (confirmation : Confirmation) (count : ℕ) (entries : List ℕ)
     → Taken confirmation count entries → 1 ≤ count
-    → parsed (proof_bytes (increment confirmation count entries)) ≡ Parsed.Proof (record { kind = Kind.Increment; count = count })
+    → parsed (proof_bytes (increment confirmation count entries)) ≡ Ok (record { kind = Kind.Increment; count = count })
 unfolding proof_bytes header_of header_bytes confirmation_bytes
 increment-reads confirmation count entries taken some =
     let s = proof_bytes (increment confirmation count entries) in
@@ -158,9 +143,9 @@ increment-reads confirmation count entries taken some =
         log = refl;
       });
     })
-    ∙ ap Parsed.Proof shape
+    ∙ ap Ok shape
 
-pub encode-reads : (fields : Fields) → Takes fields → parsed (proof_bytes fields) ≡ Parsed.Proof (shape_of fields)
+pub encode-reads : (fields : Fields) → Takes fields → parsed (proof_bytes fields) ≡ Ok (shape_of fields)
 encode-reads (read confirmation certificate count entries) takes = read-reads confirmation certificate count entries takes.0 takes.1
 encode-reads (increment confirmation count entries) takes = increment-reads confirmation count entries takes.0 takes.1
 
@@ -168,11 +153,7 @@ encode-reads (increment confirmation count entries) takes = increment-reads conf
 
 -- a known kind's number is that of its kind
 kind-number : (n : ℕ) → known_kind n ≡ true → kind_number (kind_of n) ≡ n
-kind-number n known = go (eqb n 1) refl known
-  where
-    go : (b : Bool) → eqb n 1 ≡ b → (b || eqb n 2) ≡ true → kind_number (cond b Kind.Read Kind.Increment) ≡ n
-    go true e k = sym (eqb-true n 1 e)
-    go false e k = sym (eqb-true n 2 k)
+kind-number n known = grind arith
 
 both-known : (s : List ℕ) → known_form s ≡ true → (be16 s 0 ≡ proof_form) × (known_kind (be16 s 2) ≡ true)
 both-known s e =

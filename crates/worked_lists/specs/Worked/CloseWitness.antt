@@ -1,7 +1,7 @@
 -- The host's claim speaks of closing: a list along which a counter is closed while it holds the log back, is refused by 28 and then opened
 -- again, and the desk accepts the proofs of another counter before and after. From a start at 100, counter 7 is raised at 101, 9 is opened there, and
 -- both share the increment at 102. And the program has no line for it. Assumes nothing.
-use Rattle.std.specs.Prelude.{ℕ, ◌<◌, ◌≡◌, refl, List, [], ◌∷◌, take, replicate}
+use Rattle.std.specs.Prelude.{ℕ, ◌<◌, ◌≡◌, refl, List, [], ◌∷◌, take, replicate, Option, Some, None}
 use Rattle.std.proofs.Common.{sym, ap, subst, ◌∙◌, arith, lit<}
 use Rattle.forms.specs.Bytes.{Bytes, same, window}
 use Rattle.forms.specs.Chain.{step, running_after, own_entries}
@@ -265,8 +265,8 @@ pub no_line : (s : List ℕ) (figures : List (List ℕ)) → ran s (by_words (cl
 unfolding same ran
 no_line s figures = ap (ran s) (go (arguments_of figures))
   where
-    go : (a : Arguments) → named close_name a ≡ Command.Other
-    go (Arguments.One a) = refl
-    go (Arguments.Two a b) = refl
-    go (Arguments.Three a b c) = refl
-    go Arguments.Bad = refl
+    go : (a : Option Arguments) → named close_name a ≡ Command.Other
+    go (Some (Arguments.One a)) = refl
+    go (Some (Arguments.Two a b)) = refl
+    go (Some (Arguments.Three a b c)) = refl
+    go None = refl

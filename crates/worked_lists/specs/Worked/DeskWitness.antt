@@ -1,6 +1,6 @@
 -- The list of DeskExample.antt meets every supposition of the desk's claim, and no clash stands in it, so the claim speaks of something; and what it says
 -- of the accepted calls there, in figures. By computing, but for the digest, of which nothing but its length and its bytes is used. Assumes nothing.
-use Rattle.std.specs.Prelude.{ℕ, zero, suc, ◌+◌, ◌^◌, ◌≤◌, ◌<◌, ◌≡◌, refl, Bool, true, false, not, cond, ◌&&◌, List, [], ◌∷◌, ◌++◌, eqb, ltb, length, get_or, take, drop}
+use Rattle.std.specs.Prelude.{ℕ, zero, suc, ◌+◌, ◌^◌, ◌≤◌, ◌<◌, ◌≡◌, refl, Bool, true, false, not, cond, ◌&&◌, List, [], ◌∷◌, ◌++◌, eqb, ltb, length, get_or, take, drop, Ok}
 use Rattle.std.proofs.Common.{sym, ap, subst, ◌∙◌, ⊎_elim, lit<, arith, ltb-true}
 use Rattle.std.proofs.lemmas.Bool.{false≢true, eqb-false}
 use Rattle.std.proofs.Math.Decide.{dec_le}
@@ -24,10 +24,8 @@ use Rattle.digest.specs.Seal.{digest_of, is_sealed}
 use Rattle.digest.specs.Laws.SealLaws.{digest-length, digest-bytes}
 use Rattle.validity.specs.Proof.{Fields, header_of, header_bytes, proof_bytes, parsed, log_offset, shape_at}
 use Rattle.validity.specs.declared.proof.Kind.{Kind}
-use Rattle.validity.specs.declared.proof.Parsed.{Parsed}
 use Rattle.validity.specs.declared.proof.Proof.{Proof}
-use Rattle.desk_table.specs.Answer.{figures}
-use Rattle.desk_table.specs.declared.answer.Answer.{Answer}
+use Rattle.desk_table.specs.Answer.{figures, Answer, refuses}
 use Rattle.desk_table.specs.declared.answer.Figures.{Figures}
 use Rattle.desk_table.specs.Desk.{confirmation, zero_or_one, is_no, verdicts_to, is_own, running_to, bad_wanted, bad_verdicts, bad_confirmation, certificate_denied, module_denied, forged, repeated, closes_elsewhere, wrong_reading, wrong_closing, breaks_chain, closing, later_checks, accepted, judged, verified}
 use Rattle.desk_table.proofs.Laws.DeskLaws.{answer_of, verified-parsed}
@@ -131,7 +129,7 @@ unheld-behind (suc k) (row ∷ rows) otherwise unheld =
     ap (λ (held : Bool). cond held row.answer (first_answer rows otherwise)) unheld.0 ∙ unheld-behind k rows otherwise unheld.1
 
 -- the answer to a call whose proof reads, behind its first rows up to 30
-answered : (c : Call) (p : Proof) → bad_wanted c.id c.nonce ≡ false → parsed c.proof ≡ Parsed.Proof p
+answered : (c : Call) (p : Proof) → bad_wanted c.id c.nonce ≡ false → parsed c.proof ≡ Ok p
     → Unheld 6 (later_checks p c.proof c.verdicts c.id c.nonce)
     → verified c.proof c.verdicts c.id c.nonce
     ≡ first_answer (drop 6 (later_checks p c.proof c.verdicts c.id c.nonce)) (accepted p c.proof c.verdicts c.id)
@@ -139,7 +137,7 @@ unfolding judged
 answered c p wanted reads unheld =
     let judge : Proof → Answer = λ q. judged q c.proof c.verdicts c.id c.nonce in
     verified-parsed c.proof c.verdicts c.id c.nonce
-    ∙ ap (λ (held : Bool). cond held (Answer.Refused 1 0) (answer_of judge (parsed c.proof))) wanted
+    ∙ ap (λ (held : Bool). cond held (refuses 1 0) (answer_of judge (parsed c.proof))) wanted
     ∙ ap (answer_of judge) reads
     ∙ unheld-behind 6 (later_checks p c.proof c.verdicts c.id c.nonce) (accepted p c.proof c.verdicts c.id) unheld
 

@@ -1,20 +1,10 @@
 -- `bench::result::put_tablet` meets its contract: three figures and a newline stand side by side. Assumes nothing.
-use Rattle.std.proofs.Common.{◌≡◌, ap, ◌∙◌, ◌+◌, arith, length}
-use Rattle.forms.specs.Laws.BytesLaws.{length-overwrite}
+use Rattle.std.proofs.Common.{◌≡◌, ◌∙◌, ◌+◌, arith, length}
 use Rattle.text.specs.Line.{numeral, spaced}
 use Rattle.text.specs.Laws.LineLaws.{length-numeral, stored-fits}
 use Rattle.bench.specs.Laws.ResultLaws.{line-length, line-stored}
 use Rattle.bench.proofs.result.put_tablet.Goals as goal
 use Rattle.bench.proofs.result.put_tablet.Goals.{After-put_numeral-raises_end, After-put_figure-stale_end, After-put_figure-full_end}
-
--- a figure leaves the text as long as it was
-raises-long : (c : After-put_numeral-raises_end) → length c.put_numeral-raises_end.new.text ≡ length c.args.text.now
-raises-long c = ap length c.put_numeral-raises_end.ensures.text_after ∙ simp length-overwrite
-
-stale-long : (c : After-put_figure-stale_end) → length c.put_figure-stale_end.new.text ≡ length c.args.text.now
-stale-long c =
-    ap length c.put_figure-stale_end.ensures.text_after
-    ∙ simp length-overwrite (raises-long (goal.at.After-put_figure-stale_end c).After-put_numeral-raises_end)
 
 -- there is room for each figure behind the one before it
 raises-at : (c : After-put_numeral-raises_end) → c.put_numeral-raises_end.result ≡ c.args.at + length (numeral c.args.tablet.raises)
@@ -29,7 +19,7 @@ stale-at c =
     let raises = (goal.at.After-put_figure-stale_end c).After-put_numeral-raises_end in
     c.put_figure-stale_end.ensures.value
     ∙ stored-fits c.put_numeral-raises_end.new.text c.put_numeral-raises_end.result (spaced t.stale)
-    (omega (arith, raises-long raises, raises-at raises, length-numeral 10 t.raises, length-numeral 10 t.stale, c.requires))
+    (omega (arith, c.put_numeral-raises_end.auto.text, raises-at raises, length-numeral 10 t.raises, length-numeral 10 t.stale, c.requires))
 
 full_at : (c : After-put_figure-full_end) → c.put_figure-full_end.result ≡ c.put_figure-stale_end.result + length (spaced c.args.tablet.full)
 full_at c =
@@ -40,7 +30,8 @@ full_at c =
     ∙ stored-fits c.put_figure-stale_end.new.text c.put_figure-stale_end.result (spaced t.full)
     (omega (
       arith,
-      stale-long stale,
+      c.put_numeral-raises_end.auto.text,
+      c.put_figure-stale_end.auto.text,
       stale-at stale,
       raises-at raises,
       length-numeral 10 t.raises,

@@ -4,4 +4,4 @@ use Rattle.desk_table.specs.declared.answer.Figures.{Figures}
 use Rattle.console.proofs.judge.show.Goals as goal
 
 pub returns : goal.returns
-returns c = ap (λ (f : Figures). record { number = f.number; value = f.value }) c.figures-figures.ensures
+returns c = ap (λ (f : Figures). record { number = f.number; value = f.value }) c.from-figures.ensures

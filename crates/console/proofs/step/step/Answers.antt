@@ -18,7 +18,7 @@ unfolding ran
 returns-in-Start c =
     let is = c.in-Start.is in
     record {
-      value = figures_known c.args.image.now is c.start.ensures.value;
+      value = figures_known c.args.image.now is (c.into.ensures ∙ c.start.ensures.value);
       image_after = image_known c.args.image.now is c.start.ensures.image_after;
     }
 
@@ -27,7 +27,7 @@ unfolding ran
 returns-in-Open c =
     let is = c.in-Open.is in
     record {
-      value = figures_known c.args.image.now is c.«open».ensures.value;
+      value = figures_known c.args.image.now is (c.into-in-Open.ensures ∙ c.«open».ensures.value);
       image_after = image_known c.args.image.now is c.«open».ensures.image_after;
     }
 
@@ -36,7 +36,7 @@ unfolding ran
 returns-in-Tick c =
     let is = c.in-Tick.is in
     record {
-      value = figures_known c.args.image.now is c.tick.ensures.value;
+      value = figures_known c.args.image.now is (c.into-in-Tick.ensures ∙ c.tick.ensures.value);
       image_after = image_known c.args.image.now is c.tick.ensures.image_after;
     }
 
@@ -78,7 +78,7 @@ unfolding ran
 returns-in-Confirm c =
     let is = c.in-Confirm.is in
     record {
-      value = figures_known c.args.image.now is c.confirm.ensures.value;
+      value = figures_known c.args.image.now is (c.into-in-Confirm.ensures ∙ c.confirm.ensures.value);
       image_after = image_known c.args.image.now is c.confirm.ensures.image_after;
     }
 
@@ -86,4 +86,4 @@ pub returns-in-Other : goal.returns-in-Other
 unfolding ran
 returns-in-Other c =
     let is = c.in-Other.is in
-    record { value = figures_known c.args.image.now is refl; image_after = image_known c.args.image.now is refl }
+    record { value = figures_known c.args.image.now is (ap (λ (n : ℕ). record { number = n; value = 0 }) c.number.ensures); image_after = image_known c.args.image.now is refl }

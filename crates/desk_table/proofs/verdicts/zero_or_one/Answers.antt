@@ -1,27 +1,23 @@
--- `desk_table::verdicts::zero_or_one` meets its contract: no byte passed is over 1, or one was and the answer stands. Assumes nothing.
-use Rattle.std.proofs.Common.{refl, sym, ◌∙◌, inl, inr, ⊎_elim, arith, rules, below_more}
-use Rattle.desk_table.proofs.Laws.VerdictsLaws.{zero-or-one-yes, zero-or-one-no}
+-- `desk_table::verdicts::zero_or_one` meets its contract: all are fine where those passed and those left are. Assumes nothing.
+use Rattle.std.proofs.Common.{sym, ap, ◌∙◌, ◌&&◌, List, ℕ, add-one, drop, get_or, leb, drop-cons}
+use Rattle.std.proofs.lemmas.List.{drop_all}
+use Rattle.std.proofs.Math.Bool.{and_assoc, and-true}
+use Rattle.desk_table.specs.Desk.{zero_or_one}
 use Rattle.desk_table.proofs.verdicts.zero_or_one.Goals as goal
-use Rattle.desk_table.proofs.verdicts.zero_or_one.Goals.{then-verdicts-i-gt1, else-verdicts-i-gt1}
 
-pub loop-i-init : goal.loop-i-init
-loop-i-init c = (search rules, inl (refl, λ k h. omega arith))
-
-pub loop-i-preserved : goal.loop-i-preserved
-loop-i-preserved c =
-    let turn = c.loop-i in (
-      search rules,
-      elim c.if-verdicts-i-gt1.branch [
-        | then-verdicts-i-gt1 w ↦ inr (w.fine-is, zero-or-one-no _ turn.i w.if-verdicts-i-gt1.true)
-        | else-verdicts-i-gt1 w ↦
-            ⊎_elim (λ all. inl (w.fine-is ∙ all.0, below_more _ _ all.1 w.if-verdicts-i-gt1.false)) (λ some. inr (w.fine-is ∙ some.0, some.1))
-            turn.invariant.1
-      ],
-    )
+pub loop-verdict-preserved : goal.loop-verdict-preserved
+unfolding zero_or_one
+loop-verdict-preserved c =
+    let l = c.args.verdicts.now in
+    let turn = c.loop-verdict in
+    let i = turn.verdict-index in
+    turn.invariant
+    ∙ ap (λ (rest : List ℕ). turn.fine && zero_or_one rest) (drop-cons l i 0 c.loop-verdict-test.true)
+    ∙ sym (and_assoc turn.fine (leb (get_or l i 0) 1) _)
+    ∙ ap (λ (n : ℕ). (turn.fine && leb (get_or l i 0) 1) && zero_or_one (drop n l)) (sym (add-one i))
 
 pub returns : goal.returns
+unfolding zero_or_one
 returns c =
-    ⊎_elim
-    (λ all. all.0 ∙ sym (zero-or-one-yes _ (λ k h. all.1 k (omega arith))))
-    (λ some. some.0 ∙ sym some.1)
-    c.loop-i.invariant.1
+    let turn = c.loop-verdict in
+    sym (turn.invariant ∙ ap (λ (rest : List ℕ). turn.fine && zero_or_one rest) (drop_all _ _ c.loop-verdict-test.false) ∙ and-true turn.fine)

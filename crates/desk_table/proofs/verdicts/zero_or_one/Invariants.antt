@@ -1,12 +1,7 @@
--- `desk_table::verdicts::zero_or_one` meets its contract: no byte passed is over 1, or one was and the answer stands. Assumes nothing.
-use Rattle.std.proofs.Common.{◌≡◌, true, false, ◌⊎◌, ℕ, ◌-◌, ◌<◌, ◌≤◌, length, get_or}
+-- `desk_table::verdicts::zero_or_one` meets its contract: all are fine where those passed and those left are. Assumes nothing.
+use Rattle.std.proofs.Common.{◌≡◌, ◌&&◌, drop}
 use Rattle.desk_table.specs.Desk.{zero_or_one}
 use Rattle.desk_table.proofs.verdicts.zero_or_one.Given as goal
 
-abbrev pub invariant-loop-i : goal.invariant-loop-i
-invariant-loop-i l =
-    (l.i ≤ length l.verdicts)
-    × (((l.fine ≡ true) × ((k : ℕ) → k < l.i → get_or l.verdicts k 0 ≤ 1)) ⊎ ((l.fine ≡ false) × (zero_or_one l.verdicts ≡ false)))
-
-abbrev pub decreases-loop-i : goal.decreases-loop-i
-decreases-loop-i l = length l.verdicts - l.i
+abbrev pub invariant-loop-verdict : goal.invariant-loop-verdict
+invariant-loop-verdict l = zero_or_one l.verdicts ≡ (l.fine && zero_or_one (drop l.verdict-index l.verdicts))

@@ -12,24 +12,23 @@ part s at h =
     ap (λ (n : ℕ). take n (drop at s)) count ∙ sym (window-part s at nonce_len h)
 
 pub overflow_add-at : goal.overflow_add-at
-overflow_add-at c = record { fits = omega (arith, leb-true, c.well_formed.0.0) }
+overflow_add-at c = record { fits = omega (arith, leb-true _ _ (sym c.fits.ensures ∙ c.if-fits.true)) }
 
 pub slice_bounds-words_agree-end : goal.slice_bounds-words_agree-end
-slice_bounds-words_agree-end c = omega (arith, leb-true)
-
-pub slice_bounds-words_agree-end-then-nonce-ge-LEN : goal.slice_bounds-words_agree-end-then-nonce-ge-LEN
-slice_bounds-words_agree-end-then-nonce-ge-LEN c = sym (length-take-le nonce_len c.args.nonce.now (omega (arith, leb-true)))
+slice_bounds-words_agree-end c = omega (arith, leb-true _ _ (sym c.fits.ensures ∙ c.if-fits.true))
 
 pub words_agree-requires : goal.words_agree-requires
 words_agree-requires c =
-    let a = c.args in
-    (ap length (part a.s.now a.at (omega (arith, leb-true))) ∙ length-window a.s.now a.at nonce_len, sym ((sym (length-take-le nonce_len c.args.nonce.now (omega (arith, leb-true))))))
+    let a = c.args in (
+      ap length (part a.s.now a.at (leb-true _ _ (sym c.fits.ensures ∙ c.if-fits.true))) ∙ length-window a.s.now a.at nonce_len,
+      length-take-le nonce_len a.nonce.now c.if-nonce-ge-LEN.true,
+    )
 
 pub returns-then-nonce-ge-LEN : goal.returns-then-nonce-ge-LEN
 returns-then-nonce-ge-LEN c =
     let a = c.args in
     c.words_agree.ensures
-    ∙ ap₂ same (part a.s.now a.at (omega (arith, leb-true))) (part a.nonce.now 0 (omega (arith, leb-true)))
+    ∙ ap₂ same (part a.s.now a.at (leb-true _ _ (sym c.fits.ensures ∙ c.if-fits.true))) (part a.nonce.now 0 c.if-nonce-ge-LEN.true)
 
 pub returns : goal.returns
 returns c = c.words_agree-2.ensures ∙ ap₂ same c.nonce_at.ensures c.nonce_at-2.ensures

@@ -1,26 +1,34 @@
--- `grammar::order::read_order` meets its contract, by how many figures there are. Assumes nothing.
-use Rattle.std.proofs.Common.{◌≡◌, sym, ap, ◌∙◌, List, take, ℕ, arith}
-use Rattle.text.specs.Text.{first_place}
-use Rattle.grammar.specs.Command.{Arguments, arguments_of, space}
-use Rattle.grammar.specs.Laws.CommandLaws.{order-named, rest_of}
+-- `grammar::order::read_order` meets its contract, by the figures and the name. Assumes nothing.
+use Rattle.std.proofs.Common.{◌≡◌, sym, ap, ◌∙◌, Some, rules}
+use Rattle.grammar.specs.Command.{Arguments}
+use Rattle.grammar.specs.Laws.CommandLaws.{order-said, order_said}
 use Rattle.grammar.specs.Order.{order_named, order_of}
+use Rattle.grammar.proofs.order.read_order.Goals.{In-Some}
 use Rattle.grammar.proofs.order.read_order.Goals as goal
 
--- the figures behind the first word name the order with it
-by-figures : (line : List ℕ) (end : ℕ) {found given : Arguments} → end ≡ first_place line 0 space → found ≡ given
-    → found ≡ arguments_of (rest_of line end) → order_named (take end line) given ≡ order_of line
-by-figures line end at e found = ap (order_named (take end line)) (sym e ∙ found) ∙ sym (order-named line end (omega arith))
+-- the order of a line's name and figures
+line_is : (c : In-Some) {figures : Arguments} → c.in-Some.figures ≡ figures → order_named c.in-Some.name.now (Some figures) ≡ order_of c.args.line.now
+line_is c is =
+    let line = order-said c.args.line.now ∙ ap order_said (sym c.in-Some.ensures) in
+    sym (line ∙ ap (λ (f : Arguments). order_named c.in-Some.name.now (Some f)) is)
+
+pub returns-in_default : goal.returns-in_default
+returns-in_default c = sym (order-said c.args.line.now ∙ ap order_said (sym c.in_default.ensures))
 
 pub returns-in-One : goal.returns-in-One
-returns-in-One c =
-    c.order_one.ensures ∙ by-figures c.args.line.now _ c.find-end.ensures.value c.in-One.is c.read_arguments-given.ensures
+returns-in-One c = (search rules) ∙ line_is (goal.at.returns-in-One c).In-Some c.in-One.is
 
-pub returns-in-Two : goal.returns-in-Two
-returns-in-Two c = by-figures c.args.line.now _ c.find-end.ensures.value c.in-Two.is c.read_arguments-given.ensures
+pub returns-in-One-2 : goal.returns-in-One-2
+returns-in-One-2 c = (search rules) ∙ line_is (goal.at.returns-in-One-2 c).In-Some c.in-One-2.is
 
 pub returns-in-Three : goal.returns-in-Three
-returns-in-Three c =
-    c.order_three.ensures ∙ by-figures c.args.line.now _ c.find-end.ensures.value c.in-Three.is c.read_arguments-given.ensures
+returns-in-Three c = (search rules) ∙ line_is (goal.at.returns-in-Three c).In-Some c.in-Three.is
 
-pub returns-in-Bad : goal.returns-in-Bad
-returns-in-Bad c = by-figures c.args.line.now _ c.find-end.ensures.value c.in-Bad.is c.read_arguments-given.ensures
+pub returns-in_default-figures : goal.returns-in_default-figures
+returns-in_default-figures c = (search rules) ∙ line_is (goal.at.returns-in_default-figures c).In-Some c.in-One-2.is
+
+pub returns-in_default-figures-2 : goal.returns-in_default-figures-2
+returns-in_default-figures-2 c = (search rules) ∙ line_is (goal.at.returns-in_default-figures-2 c).In-Some c.in-Three.is
+
+pub returns-in_default-figures-3 : goal.returns-in_default-figures-3
+returns-in_default-figures-3 c = line_is (goal.at.returns-in_default-figures-3 c).In-Some c.in_default-figures.is

@@ -1,78 +1,63 @@
--- `host::close::close` meets its contract: 14, a refusal, or the record taken out and the entries no longer needed dropped. Assumes
+-- `host::close::close` meets its contract where it is not refused: the record is taken out, and the entries no longer needed are dropped. Assumes
 -- nothing.
-use Rattle.std.proofs.Common.{◌≡◌, sym, ap, ◌∙◌, true, List, ℕ, arith}
+use Rattle.std.proofs.Common.{◌≡◌, sym, ap, ◌∙◌, Some, is_some, List, ℕ, rules}
+use Rattle.std.proofs.lemmas.Option.{same_Some}
 use Rattle.forms.specs.Bytes.{Bytes}
-use Rattle.log_image.specs.Laws.ImageRoundTrip.{StateFits, sound-decode}
-use Rattle.log_image.specs.Sound.{record_of, sound}
+use Rattle.log_image.specs.Laws.ImageRoundTrip.{sound-decode}
+use Rattle.log_image.specs.Sound.{record_of}
 use Rattle.log_image.specs.State.{decode, encode}
 use Rattle.log_store.specs.Effect.{with_records, without}
 use Rattle.log_store.proofs.Laws.CutStores.{cut-stored}
 use Rattle.log_store.proofs.Laws.EachRecordLaws.{oldest-without}
 use Rattle.log_store.proofs.Laws.RemoveStores.{removed-proofs, removed-stored, without-fits}
-use Rattle.log_store.specs.Store.{log_cut, proofs_of, record_removed}
+use Rattle.log_store.specs.Store.{log_cut, proofs_removed, record_removed}
 use Rattle.host.proofs.Laws.FittingLaws.{image-of, state-fits}
 use Rattle.host.specs.Host.{close_refusal, closed_state}
-use Rattle.host.proofs.Laws.RefusalLaws.{ClosePassed, close_passed}
-use Rattle.host.proofs.Laws.SettledLaws.{ends-unsound, ends-refused, ends-done}
+use Rattle.host.proofs.Laws.RefusalLaws.{close_passed}
+use Rattle.host.proofs.Laws.SettledLaws.{ends-done}
 use Rattle.host.proofs.Laws.SoundParts.{sound-parts}
 use Rattle.host.proofs.close.close.Goals as goal
+use Rattle.host.proofs.close.close.Goals.{After-remove_record}
 
-pub returns-then-not-sound : goal.returns-then-not-sound
-returns-then-not-sound c =
-    let state = decode c.args.image.now in
-    let refusal = close_refusal state c.args.confirmation c.args.verdict in
-    let next = closed_state state c.args.confirmation.id in
-    let proofs = (record_of state.records c.args.confirmation.id).proofs in
-    let all = ends-unsound c.args.image.now refusal proofs next (sym c.sound.ensures ∙ c.if-not-sound.true) in
-    record { value = all.0; image_after = all.1 }
+passes : (c : After-remove_record) → close_refusal (decode c.args.image.now) c.args.confirmation c.args.verdict ≡ 0
+passes c =
+    ap (λ (l : List ℕ). close_refusal (decode l) c.args.confirmation c.args.verdict) (sym c.in_ok-of.ensures.0) ∙ sym c.in_ok-close_refusal.ensures
 
-pub close_refusal-number-requires : goal.close_refusal-number-requires
-close_refusal-number-requires c =
-    let is-sound : sound c.args.image.now ≡ true = sym c.sound.ensures ∙ c.if-not-sound.false in
-    is-sound
+-- the counter is held, and the number of its proofs is answered
+counted : (c : After-remove_record) → c.remove_record.result ≡ Some (record_of (decode c.args.image.now).records c.args.confirmation.id).proofs
+unfolding Bytes
+counted c =
+    let a = c.args in
+    let s = a.image.now in
+    let st = decode s in
+    let id = a.confirmation.id in
+    let is-sound = c.in_ok-of.ensures.1 in
+    let bytes : Bytes s = λ k. search rules in
+    let held = (close_passed st a.confirmation a.verdict (passes c)).held in
+    c.remove_record.ensures.value ∙ ap (λ (l : List ℕ). proofs_removed l id) (image-of s bytes is-sound) ∙ removed-proofs st (state-fits s bytes is-sound) id held
 
-pub returns-then-number-ne-NONE : goal.returns-then-number-ne-NONE
-returns-then-number-ne-NONE c =
-    let state = decode c.args.image.now in
-    let refusal = close_refusal state c.args.confirmation c.args.verdict in
-    let next = closed_state state c.args.confirmation.id in
-    let proofs = (record_of state.records c.args.confirmation.id).proofs in
-    let is-sound : sound c.args.image.now ≡ true = sym c.sound.ensures ∙ c.if-not-sound.false in
-    let all = ends-refused c.args.image.now refusal proofs next c.close_refusal-number.result
-    is-sound c.close_refusal-number.ensures c.if-number-ne-NONE.true in
-    record { value = all.0; image_after = all.1 }
+pub unwrap-value-requires : goal.unwrap-value-requires
+unwrap-value-requires c = ap is_some (counted (goal.at.unwrap-value-requires c).After-remove_record)
 
 pub returns : goal.returns
 unfolding Bytes
 returns c =
-    let state = decode c.args.image.now in
-    let refusal = close_refusal state c.args.confirmation c.args.verdict in
-    let next = closed_state state c.args.confirmation.id in
-    let proofs = (record_of state.records c.args.confirmation.id).proofs in
-    let is-sound : sound c.args.image.now ≡ true = sym c.sound.ensures ∙ c.if-not-sound.false in
-    let none : refusal ≡ 0 = sym c.close_refusal-number.ensures ∙ c.if-number-ne-NONE.false in
-    let bytes : Bytes c.args.image.now = λ k. omega (arith, c.slice_known-1.given k) in
-    let passed : (let a = c.args in ClosePassed (decode a.image.now) a.confirmation a.verdict) = let a = c.args in
-    close_passed (decode a.image.now) a.confirmation a.verdict none in
-    let others = without state.records c.args.confirmation.id in
-    let fits : StateFits (with_records state others) = without-fits state c.args.confirmation.id (state-fits c.args.image.now bytes is-sound) passed.held in
-    let removed : c.remove_record-value.new.image ≡ encode (with_records state others) = let image = c.args.image.now in
-    let is = is-sound in
-    let id = c.args.confirmation.id in
-    c.remove_record-value.ensures.image_after
-    ∙ ap (λ (l : List ℕ). record_removed l id) (image-of image bytes is)
-    ∙ removed-stored state (state-fits image bytes is) id passed.held in
-    let answered : c.remove_record-value.result ≡ proofs = let image = c.args.image.now in
-    let is = is-sound in
-    let id = c.args.confirmation.id in
-    c.remove_record-value.ensures.value
-    ∙ ap (λ (l : List ℕ). proofs_of l id) (image-of image bytes is)
-    ∙ removed-proofs state (state-fits image bytes is) id passed.held in
-    let st = state in
-    let is = is-sound in
-    let all = ends-done c.args.image.now refusal proofs next c.remove_record-value.result c.cut.new.image is none answered
+    let a = c.args in
+    let s = a.image.now in
+    let st = decode s in
+    let id = a.confirmation.id in
+    let others = without st.records id in
+    let is-sound = c.in_ok-of.ensures.1 in
+    let at = (goal.at.returns c).After-remove_record in
+    let none = passes at in
+    let bytes : Bytes s = λ k. search rules in
+    let fits = state-fits s bytes is-sound in
+    let held = (close_passed st a.confirmation a.verdict none).held in
+    let removed : c.remove_record.new.image ≡ encode (with_records st others) =
+    c.remove_record.ensures.image_after ∙ ap (λ (l : List ℕ). record_removed l id) (image-of s bytes is-sound) ∙ removed-stored st fits id held in
+    let all = ends-done s _ _ (closed_state st id) c.unwrap-value.result c.cut.new.image is-sound none
+    (same_Some _ _ (sym c.unwrap-value.ensures ∙ counted at))
     (c.cut.ensures.image_after
     ∙ ap log_cut removed
-    ∙ cut-stored st others (sound-parts st (sound-decode c.args.image.now is)).span (oldest-without st.clock st.records c.args.confirmation.id)
-    fits) in
+    ∙ cut-stored st others (sound-parts st (sound-decode s is-sound)).span (oldest-without st.clock st.records id) (without-fits st id fits held)) in
     record { value = all.0; image_after = all.1 }

@@ -1,58 +1,50 @@
--- `host::open::open` meets its contract: 14, a refusal, or the record stored. Assumes nothing.
-use Rattle.std.proofs.Common.{◌≡◌, sym, ap, ◌∙◌, true, List, ℕ, ◌+◌, ◌<◌, arith, length}
+-- `host::open::open` meets its contract where it is not refused: the record is stored. Assumes nothing.
+use Rattle.std.proofs.Common.{◌≡◌, sym, ap, ◌∙◌, ◌+◌, Some, is_some, length, List, ℕ, rules}
+use Rattle.std.proofs.lemmas.Option.{same_Some}
 use Rattle.forms.specs.Bytes.{Bytes}
-use Rattle.forms.specs.Limits.{max_counters}
-use Rattle.log_image.specs.Sound.{sound}
 use Rattle.log_image.specs.State.{decode}
 use Rattle.log_store.proofs.Laws.RecordStores.{added-counted, added-stored}
-use Rattle.log_store.specs.Store.{counters_with, record_added}
+use Rattle.log_store.specs.Store.{counters_added, record_added}
 use Rattle.log_store.specs.Effect.{opened}
 use Rattle.host.proofs.Laws.FittingLaws.{image-of, record-room, state-fits}
 use Rattle.host.specs.Host.{open_refusal}
 use Rattle.host.proofs.Laws.RefusalLaws.{open-passed}
-use Rattle.host.proofs.Laws.SettledLaws.{ends-unsound, ends-refused, ends-done}
+use Rattle.host.proofs.Laws.SettledLaws.{ends-done}
 use Rattle.host.proofs.open.open.Goals as goal
+use Rattle.host.proofs.open.open.Goals.{After-add_record}
 
-pub returns-then-not-sound : goal.returns-then-not-sound
-returns-then-not-sound c =
-    let state = decode c.args.image.now in
-    let refusal = open_refusal state c.args.confirmation c.args.verdict in
-    let all = ends-unsound c.args.image.now refusal (length state.records + 1) (opened state c.args.confirmation)
-    (sym c.sound.ensures ∙ c.if-not-sound.true) in
-    record { value = all.0; image_after = all.1 }
+passes : (c : After-add_record) → open_refusal (decode c.args.image.now) c.args.confirmation c.args.verdict ≡ 0
+passes c =
+    ap (λ (l : List ℕ). open_refusal (decode l) c.args.confirmation c.args.verdict) (sym c.in_ok-of.ensures.0) ∙ sym c.in_ok-open_refusal.ensures
 
-pub open_refusal-number-requires : goal.open_refusal-number-requires
-open_refusal-number-requires c =
-    let is-sound : sound c.args.image.now ≡ true = sym c.sound.ensures ∙ c.if-not-sound.false in
-    is-sound
+-- there is a place left, and the count with the record is answered
+counted : (c : After-add_record) → c.add_record.result ≡ Some (length (decode c.args.image.now).records + 1)
+unfolding Bytes
+counted c =
+    let a = c.args in
+    let s = a.image.now in
+    let st = decode s in
+    let is-sound = c.in_ok-of.ensures.1 in
+    let bytes : Bytes s = λ k. search rules in
+    let room = record-room s bytes is-sound (open-passed st a.confirmation a.verdict (passes c)).room in
+    c.add_record.ensures.value ∙ ap counters_added (image-of s bytes is-sound) ∙ added-counted st (state-fits s bytes is-sound) room
 
-pub returns-then-number-ne-NONE : goal.returns-then-number-ne-NONE
-returns-then-number-ne-NONE c =
-    let state = decode c.args.image.now in
-    let refusal = open_refusal state c.args.confirmation c.args.verdict in
-    let is-sound : sound c.args.image.now ≡ true = sym c.sound.ensures ∙ c.if-not-sound.false in
-    let all = ends-refused c.args.image.now refusal (length state.records + 1) (opened state c.args.confirmation)
-    c.open_refusal-number.result is-sound c.open_refusal-number.ensures c.if-number-ne-NONE.true in
-    record { value = all.0; image_after = all.1 }
+pub unwrap-requires : goal.unwrap-requires
+unwrap-requires c = ap is_some (counted (goal.at.unwrap-requires c).After-add_record)
 
 pub returns : goal.returns
 unfolding Bytes
 returns c =
-    let state = decode c.args.image.now in
-    let refusal = open_refusal state c.args.confirmation c.args.verdict in
-    let is-sound : sound c.args.image.now ≡ true = sym c.sound.ensures ∙ c.if-not-sound.false in
-    let passed : refusal ≡ 0 = sym c.open_refusal-number.ensures ∙ c.if-number-ne-NONE.false in
-    let bytes : Bytes c.args.image.now = λ k. omega (arith, c.slice_known-1.given k) in
-    let room : length state.records < max_counters = let a = c.args in
-    record-room a.image.now bytes is-sound
-    (open-passed (decode a.image.now) a.confirmation a.verdict passed).room in
-    let image = c.args.image.now in
-    let is = is-sound in
-    let fits = state-fits image bytes is in
-    let all = ends-done c.args.image.now refusal (length state.records + 1) (opened state c.args.confirmation)
-    c.add_record-value.result c.add_record-value.new.image is passed
-    (c.add_record-value.ensures.value ∙ ap counters_with (image-of image bytes is) ∙ added-counted state fits room)
-    (c.add_record-value.ensures.image_after
-    ∙ ap (λ (l : List ℕ). record_added l c.args.confirmation) (image-of image bytes is)
-    ∙ added-stored state fits room c.args.confirmation) in
+    let a = c.args in
+    let s = a.image.now in
+    let st = decode s in
+    let is-sound = c.in_ok-of.ensures.1 in
+    let at = (goal.at.returns c).After-add_record in
+    let none = passes at in
+    let bytes : Bytes s = λ k. search rules in
+    let fits = state-fits s bytes is-sound in
+    let room = record-room s bytes is-sound (open-passed st a.confirmation a.verdict none).room in
+    let all = ends-done s _ _ (opened st a.confirmation) c.unwrap.result c.add_record.new.image is-sound none
+    (same_Some _ _ (sym c.unwrap.ensures ∙ counted at))
+    (c.add_record.ensures.image_after ∙ ap (λ (l : List ℕ). record_added l a.confirmation) (image-of s bytes is-sound) ∙ added-stored st fits room a.confirmation) in
     record { value = all.0; image_after = all.1 }

@@ -1,26 +1,21 @@
 -- `forms::confirmation::Confirmation::write` meets its contract: three stores side by side are one. Assumes nothing.
-use Rattle.std.proofs.Common.{refl, sym, ◌++◌, arith}
+use Rattle.std.proofs.Common.{refl, sym, ◌++◌, arith, ◌∙◌, leb-true}
 use Rattle.forms.specs.Number.{digits}
 use Rattle.forms.specs.Confirmation.{confirmation_bytes}
-use Rattle.forms.specs.Laws.BytesLaws.{overwrite-out, stored_next}
+use Rattle.forms.specs.Laws.BytesLaws.{not-stored, stored_next}
 use Rattle.forms.proofs.confirmation.Confirmation.write.Goals as goal
 
-pub returns-then-s-at : goal.returns-then-s-at
+pub returns-then-not-fits : goal.returns-then-not-fits
 unfolding confirmation_bytes
-returns-then-s-at c =
+returns-then-not-fits c =
     let a = c.args in
-    sym (overwrite-out a.s.now a.at (confirmation_bytes a.self) (omega arith))
-
-pub returns-then-s-at-lt-LEN : goal.returns-then-s-at-lt-LEN
-unfolding confirmation_bytes
-returns-then-s-at-lt-LEN c =
-    let a = c.args in
-    sym (overwrite-out a.s.now a.at (confirmation_bytes a.self) (omega arith))
+    not-stored a.s.now a.at (confirmation_bytes a.self) _ c.fits.ensures c.if-not-fits.true (refl)
 
 pub returns : goal.returns
 unfolding confirmation_bytes
 returns c =
     let a = c.args in
+    let room = leb-true _ _ (sym c.fits.ensures ∙ c.if-not-fits.false) in
     let id = digits 4 a.self.id.0 in
     let value = digits 4 a.self.value in
     stored_next a.s.now a.at (id ++ value) (digits 4 a.self.reading.0)

@@ -1,9 +1,0 @@
--- `desk_cases::table::run` is safe and ends: each line begins behind the one before. Assumes nothing.
-use Rattle.std.proofs.Common.{◌+◌, ◌-◌, ◌≤◌, length}
-use Rattle.desk_cases.proofs.table.run.Given as goal
-
-abbrev pub invariant-loop-from : goal.invariant-loop-from
-invariant-loop-from g l = l.from ≤ length l.text + 1
-
-abbrev pub decreases-loop-from : goal.decreases-loop-from
-decreases-loop-from g l = length l.text + 1 - l.from
