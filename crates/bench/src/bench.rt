@@ -11,6 +11,7 @@ ghost use Rattle.bench.specs.Result.{max_result};
 
 use crate::result::{MAX_RESULT, put_result};
 use console::session::{Line, TakeLine};
+use console::step::YES;
 use forms::bytes::put;
 use forms::confirmation::Confirmation;
 use forms::terms::{CounterId, GlobalClock};
@@ -35,9 +36,6 @@ pub struct Bench {
     pub stage: Stage,
     pub fleet: Fleet,
 }
-
-// The owner's verdict on every confirmation.
-const YES: u32 = 1;
 
 // A line that is none of those: 27. Answers the place behind its text.
 fn pass_over(text: &mut [u8], at: usize) -> usize

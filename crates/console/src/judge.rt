@@ -31,7 +31,8 @@ use validity::proof::{Kind, Proof};
 // The most verdicts on a proof: on the confirmation, on the certificate, and two on each entry of one request.
 const MAX_VERDICTS: usize = 2 + 2 * (Proof::MAX_UNITS as usize);
 
-// The desk's answer to the proof of a kind at the start of an output, with every verdict yes.
+// The desk's answer to the proof of a kind at the start of an output, with every verdict yes. The output is lent with its room, as it was written,
+// and cut to the proof here, once.
 //
 // Ruled out, among others: a desk that gets the whole output, with what an earlier proof left there; one that is told no where there is nobody to
 // say yes.

@@ -3,6 +3,7 @@ ghost use Rattle.std.specs.Prelude.{◌≡◌, ◌+◌, ◌≤◌, length};
 ghost use Rattle.forms.specs.Bytes.{overwrite};
 ghost use Rattle.grammar.specs.declared.command.Command.{Command};
 ghost use Rattle.host.specs.Host.{read_call};
+ghost use Rattle.host.specs.Outcome.{figures_of};
 ghost use Rattle.console.specs.Step.{answer_text, max_answer, raised_once, ran, read_figures};
 
 use crate::judge::{show_last, show_prove};
@@ -13,7 +14,7 @@ use forms::refusal::Refusal;
 use forms::request::Request;
 use forms::terms::CounterId;
 use grammar::command::Command;
-use host::answer::{Figures, ReadFigures};
+use host::answer::Figures;
 use host::confirm::confirm;
 use host::increment::increment;
 use host::open::open;
@@ -23,7 +24,7 @@ use host::tick::tick;
 use text::line::put_numeral;
 
 // The owner's verdict on every confirmation, and on every request.
-const YES: u32 = 1;
+pub const YES: u32 = 1;
 
 const SIGNED: [u8; 1] = [1];
 
@@ -31,34 +32,26 @@ const SIGNED: [u8; 1] = [1];
 fn show_read(image: &[u8], id: CounterId) -> Figures
     ensures { result ≡ read_figures (read_call image.now id) }
 {
-    let shown = ReadFigures::from(read(image, id));
-    Figures {
-        number: shown.number,
-        value: shown.value,
-    }
+    read(image, id).map(|running| running.value).into()
 }
 
-// One request, which the owner signed, as a batch of its own: its own number, or that of a batch refused as a whole, and the value.
+// One request, which the owner signed, as a batch of its own: the clock's new reading, or why it was refused, or its batch as a whole.
 //
-// Ruled out, among others: a raise that answers 0 where the batch passed as a whole and its request did not; one that states the current value as
-// the value before, whatever it is given.
-pub fn raise_once(image: &mut [u8], nonce: Nonce, id: CounterId, before: u32) -> Figures
-    ensures value { result ≡ (raised_once image.old nonce id before).figures }
+// Ruled out, among others: a raise that answers a reading where the batch passed as a whole and its request did not; one that states the current
+// value as the value before, whatever it is given.
+pub fn raise_once(
+    image: &mut [u8],
+    nonce: Nonce,
+    id: CounterId,
+    before: u32,
+) -> Result<u32, Refusal>
+    ensures value { figures_of result ≡ (raised_once image.old nonce id before).figures }
     ensures image_after { image.new ≡ (raised_once image.old nonce id before).image }
 {
     let mut requests = [0u8; Request::LEN];
     Request::new(nonce, id, before).write(&mut requests, 0);
-    let shown = increment(image, &requests, &SIGNED);
-    match shown {
-        Ok(batch) => Figures {
-            number: batch.numbers[0],
-            value: batch.clock,
-        },
-        Err(refusal) => Figures {
-            number: refusal.number(),
-            value: 0,
-        },
-    }
+    let batch = increment(image, &requests, &SIGNED)?;
+    batch.of_one()
 }
 
 // What a command answers. The image is as the host leaves it; after a refusal, and for a line that is no command, it is as it was.
@@ -73,7 +66,7 @@ pub fn step(image: &mut [u8], command: Command) -> Figures
         Command::Open(confirmation) => open(image, confirmation, YES).into(),
         Command::Tick(byte) => tick(image, &[byte; nonce::LEN]).into(),
         Command::Increment(byte, id, before) => {
-            raise_once(image, [byte; nonce::LEN], id, before)
+            raise_once(image, [byte; nonce::LEN], id, before).into()
         }
         Command::Read(id) => show_read(image, id),
         Command::Prove(byte, id) => show_prove(image, byte, id),

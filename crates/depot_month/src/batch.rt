@@ -4,9 +4,10 @@ ghost use Rattle.std.specs.Prelude.{◌≤◌};
 use crate::depot::Depot;
 use forms::bytes::put;
 use forms::event::{ModuleEvent, ROOM};
+use forms::refusal::Refusal;
 use forms::request::Request;
 use forms::terms::GlobalClock;
-use host::answer::BatchFigures;
+use host::answer::{Batch as Judged, BatchFigures};
 use host::increment::increment;
 
 // The most requests of a batch.
@@ -51,14 +52,10 @@ impl Batch {
     }
 
     // The requests that passed.
-    fn passed(&self, figures: BatchFigures) -> Batch {
+    fn passed(&self, judged: Judged) -> Batch {
         let mut kept = Batch::new();
-        for (request, number) in self
-            .joined()
-            .chunks_exact(Request::LEN)
-            .zip(figures.numbers)
-        {
-            if number == 0 {
+        for (request, refused) in self.joined().chunks_exact(Request::LEN).zip(judged.refused) {
+            if refused.is_none() {
                 kept.push(request);
             }
         }
@@ -99,7 +96,7 @@ impl Depot {
     }
 
     // A batch is put to the host, with one verdict for all its requests. What each was answered is counted.
-    pub(crate) fn submitted(&mut self, batch: &Batch, verdict: u8) -> BatchFigures {
+    pub(crate) fn submitted(&mut self, batch: &Batch, verdict: u8) -> Result<Judged, Refusal> {
         let verdicts = [verdict; MOST];
         let outcome = increment(&mut self.image, batch.joined(), &verdicts[..batch.count]);
         let figures = BatchFigures::from(outcome);
@@ -109,9 +106,10 @@ impl Depot {
         }
         self.tally.mix(figures.number);
         self.tally.mix(figures.value);
-        if figures.value != 0 {
-            self.certified(batch.passed(figures), GlobalClock(figures.value));
+        let judged = outcome?;
+        if let Some(clock) = judged.clock {
+            self.certified(batch.passed(judged), clock);
         }
-        figures
+        Ok(judged)
     }
 }

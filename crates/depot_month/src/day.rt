@@ -91,7 +91,7 @@ impl Depot {
     // minute.
     fn tablet_raises(&mut self, step: Step) {
         if tablet_away(step.place, self.day) {
-            self.dock_raises(step.place, 1);
+            let _ = self.dock_raises(step.place, 1);
         } else {
             let tablets = 1 + step.rest % 8;
             let dock = step.rest / 8 % 4 == 0;
@@ -102,7 +102,7 @@ impl Depot {
     // One request in four of these is not signed.
     fn doubtful_raise(&mut self, step: Step) {
         let verdict = u8::from(step.rest % 4 != 0);
-        self.dock_raises(step.place, verdict);
+        let _ = self.dock_raises(step.place, verdict);
     }
 
     // One time in eight the proof for a handover is asked for with too little room first.
@@ -117,7 +117,7 @@ impl Depot {
         match step.act {
             Act::Tick => self.ticked(),
             Act::DockRaise => {
-                self.dock_raises(step.place, 1);
+                let _ = self.dock_raises(step.place, 1);
             }
             Act::TabletRaise => self.tablet_raises(step),
             Act::DoubtfulRaise => self.doubtful_raise(step),

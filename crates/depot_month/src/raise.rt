@@ -6,7 +6,7 @@ use crate::depot::Depot;
 use crate::plan::{COUNTERS, tablet_away};
 use forms::refusal::Refusal;
 use forms::terms::GlobalClock;
-use host::answer::{BatchFigures, Figures};
+use host::answer::Batch as Judged;
 use host::read::read;
 use host::tick::tick;
 
@@ -30,14 +30,13 @@ impl Depot {
         }
     }
 
-    // A request for a counter with the value before that its requester holds, and the owner's verdict on it: its own number, and the clock's reading.
-    fn requested(&mut self, place: u32, before: u32, verdict: u8) -> Figures {
+    // A request for a counter with the value before that its requester holds, and the owner's verdict on it: the clock's new reading, or why it is
+    // refused.
+    fn requested(&mut self, place: u32, before: u32, verdict: u8) -> Result<u32, Refusal> {
         let mut one = Batch::new();
         self.join(&mut one, place, before);
-        let figures = self.submitted(&one, verdict);
-        let [number, ..] = figures.numbers;
-        let value = figures.value;
-        Figures { number, value }
+        let judged = self.submitted(&one, verdict)?;
+        judged.of_one()
     }
 
     // The current value that the host gives, compared with the history's; 0 where it gives none.
@@ -52,15 +51,14 @@ impl Depot {
         shown.unwrap_or(0)
     }
 
-    pub(crate) fn dock_raises(&mut self, place: u32, verdict: u8) -> Figures {
+    pub(crate) fn dock_raises(&mut self, place: u32, verdict: u8) -> Result<u32, Refusal> {
         let before = self.current(place);
         self.requested(place, before, verdict)
     }
 
     // What a tablet takes along where its raise was done.
-    fn taken(&mut self, place: u32, figures: Figures) {
-        if figures.number == 0 {
-            let value = figures.value;
+    fn taken(&mut self, place: u32, outcome: Result<u32, Refusal>) {
+        if let Ok(value) = outcome {
             let day = self.day;
             self.cards.at_mut(place).tablet = Tablet { value, day };
         }
@@ -79,16 +77,16 @@ impl Depot {
     }
 
     // A tablet whose value is old is refused; it asks for the current one and tries again.
-    fn settled(&mut self, place: u32, answer: Figures) {
-        if answer.number != Refusal::Stale.number() {
-            self.taken(place, answer);
+    fn settled(&mut self, place: u32, outcome: Result<u32, Refusal>) {
+        if outcome != Err(Refusal::Stale) {
+            self.taken(place, outcome);
             return;
         }
         let age = self.day.saturating_sub(self.cards.at(place).tablet.day);
         self.tally.old_values.add(1);
         self.tally.week_old_values.add_if(7 <= age);
-        let figures = self.dock_raises(place, 1);
-        self.taken(place, figures);
+        let again = self.dock_raises(place, 1);
+        self.taken(place, again);
     }
 
     // Where the dock comes in the minute too, it asks for the first one's counter, if there is room.
@@ -100,12 +98,12 @@ impl Depot {
     }
 
     // What becomes of each tablet of a minute that comes, in its turn.
-    fn settled_each(&mut self, first: u32, tablets: u32, figures: BatchFigures) {
+    fn settled_each(&mut self, first: u32, tablets: u32, judged: Judged) {
         let day = self.day;
-        let value = figures.value;
+        let reading = judged.clock.map_or(0, |clock| clock.0);
         let coming = (0..tablets).filter(|k| comes(first, *k, day));
-        for (k, number) in coming.zip(figures.numbers) {
-            self.settled(place_of(first, k), Figures { number, value });
+        for (k, refused) in coming.zip(judged.refused) {
+            self.settled(place_of(first, k), refused.map_or(Ok(reading), Err));
         }
     }
 
@@ -117,10 +115,12 @@ impl Depot {
         if dock {
             self.joined(&mut batch, first);
         }
-        let figures = self.submitted(&batch, 1);
-        self.settled_each(first, tablets, figures);
-        if figures.numbers.get(own).copied() == Some(Refusal::RaisedAlready.number()) {
-            self.dock_raises(first, 1);
+        let Ok(judged) = self.submitted(&batch, 1) else {
+            return;
+        };
+        self.settled_each(first, tablets, judged);
+        if judged.refused.get(own).copied() == Some(Some(Refusal::RaisedAlready)) {
+            let _ = self.dock_raises(first, 1);
         }
     }
 }

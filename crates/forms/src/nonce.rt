@@ -33,7 +33,7 @@ fn same_word(a: &[u8], b: &[u8], offset: usize) -> bool
     u32_at(a, offset) == u32_at(b, offset)
 }
 
-// Whether two nonces agree: five words of each are read and compared, with no test between them.
+// Whether two nonces agree: five words of each are read and compared, with no test between them, as document 02's Note 3 asks.
 fn words_agree(a: &[u8], b: &[u8]) -> bool
     requires { (length a.now ≡ nonce_len) × (length b.now ≡ nonce_len) }
     ensures { result ≡ same a.now b.now }

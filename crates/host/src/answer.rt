@@ -1,10 +1,11 @@
 // The figures by which a call's outcome goes to C.
 ghost use Rattle.std.specs.Prelude.{◌≡◌};
-ghost use Rattle.host.specs.Outcome.{batch_figures_of, figures_of, read_figures_of};
+ghost use Rattle.host.specs.Outcome.{batch_figures_of, figures_of, outcome_of_one, own_number, read_figures_of};
 
 use forms::entry::Head;
 use forms::refusal::Refusal;
 use forms::running::Running;
+use forms::terms::GlobalClock;
 
 // What a host call answers: document 01's number, and the value, 0 on refusal.
 #[repr(C)]
@@ -32,12 +33,26 @@ pub struct BatchFigures {
     pub numbers: [u32; Head::MAX_COUNT as usize],
 }
 
-// What a batch came to that was not refused as a whole: the clock's new reading, 0 where no request passed, and each request's own number. C gets both as
-// they are.
+// What a batch came to that was not refused as a whole: the clock's new reading, if some request passed, and in each request's place why it was
+// refused, if it was. Behind the last there is nothing.
 #[derive(Clone, Copy)]
 pub struct Batch {
-    pub clock: u32,
-    pub numbers: [u32; Head::MAX_COUNT as usize],
+    pub clock: Option<GlobalClock>,
+    pub refused: [Option<Refusal>; Head::MAX_COUNT as usize],
+}
+
+impl Batch {
+    // Of a batch of one request: why it was refused, or the clock's new reading.
+    //
+    // Ruled out, among others: the next request's refusal; a reading where the request was refused.
+    pub fn of_one(self) -> Result<u32, Refusal>
+        ensures { result ≡ outcome_of_one self }
+    {
+        match self.refused[0] {
+            Some(refusal) => Err(refusal),
+            None => Ok(self.clock.map_or(0, |clock| clock.0)),
+        }
+    }
 }
 
 // Ruled out, among others: a value beside a refusal's number; the value in place of the number.
@@ -74,19 +89,23 @@ impl From<Result<Running, Refusal>> for ReadFigures {
     }
 }
 
+// A request's own number: its refusal's, or 0 where it passed.
+fn own_number(refused: Option<Refusal>) -> u32
+    ensures { result ≡ own_number refused }
+{
+    refused.map_or(0, Refusal::number)
+}
+
 impl From<Result<Batch, Refusal>> for BatchFigures {
     ghost from_gives = { λ outcome shown. shown ≡ batch_figures_of outcome };
 
     fn from(outcome: Result<Batch, Refusal>) -> BatchFigures {
         match outcome {
-            Ok(batch) => {
-                let numbers = batch.numbers;
-                BatchFigures {
-                    number: 0,
-                    value: batch.clock,
-                    numbers,
-                }
-            }
+            Ok(batch) => BatchFigures {
+                number: 0,
+                value: batch.clock.map_or(0, |clock| clock.0),
+                numbers: batch.refused.map(own_number),
+            },
             Err(refusal) => BatchFigures {
                 number: refusal.number(),
                 value: 0,

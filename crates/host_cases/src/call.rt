@@ -5,7 +5,6 @@ use cases::line::read_line;
 use cases::table::Change;
 use forms::nonce::LEN;
 use forms::number::put_u32;
-use forms::refusal::Refusal;
 use forms::request::Request;
 use forms::terms::CounterId;
 use host::answer::{Batch, Figures, ReadFigures};
@@ -75,20 +74,6 @@ pub enum Answer {
     Read(ReadFigures),
 }
 
-// Of a batch of one its own number, or that of a batch refused as a whole.
-pub(crate) fn of_one(outcome: Result<Batch, Refusal>) -> Figures {
-    match outcome {
-        Ok(batch) => Figures {
-            number: batch.numbers[0],
-            value: batch.clock,
-        },
-        Err(refusal) => Figures {
-            number: refusal.number(),
-            value: 0,
-        },
-    }
-}
-
 impl Line {
     pub(crate) fn of(text: &[u8]) -> Self {
         let mut figures = [0u32; FIGURES];
@@ -107,7 +92,9 @@ impl Line {
         put_u32(&mut request, len, id);
         put_u32(&mut request, len + 4, before);
         let verdicts = [(verdict % 256) as u8];
-        of_one(increment(image, front(&request, len + 8), &verdicts))
+        increment(image, front(&request, len + 8), &verdicts)
+            .and_then(Batch::of_one)
+            .into()
     }
 
     // The answer of a line's call: of those that the tables share, of `inc byte length id before verdict`, of `read id`, and of those of many.rt.

@@ -1,13 +1,13 @@
 // Many calls of one kind; the answer is the last one's. `fill count`: ticks, the nonce bytes counting from 0. `hold count id reading`: opens
 // counters from an id on, all at one reading. `around count`: increments of the counters 1 to 64 in turn, the nonce bytes
 // counting from 0.
-use crate::call::{Line, Word, of_one};
+use crate::call::{Line, Word};
 use forms::confirmation::Confirmation;
 use forms::image::Image;
 use forms::nonce::LEN;
 use forms::request::Request;
 use forms::terms::{CounterId, GlobalClock};
-use host::answer::Figures;
+use host::answer::{Batch, Figures};
 use host::increment::increment;
 use host::open::open;
 use host::read::read;
@@ -37,7 +37,9 @@ fn incremented(image: &mut [u8], place: u32) -> Figures {
     let before = read(image, id).map_or(0, |running| running.value);
     let mut request = [0u8; Request::LEN];
     Request::new([(place % 256) as u8; LEN], id, before).write(&mut request, 0);
-    of_one(increment(image, &request, &[1u8]))
+    increment(image, &request, &[1u8])
+        .and_then(Batch::of_one)
+        .into()
 }
 
 fn one(image: &mut [u8], line: Line, place: u32) -> Figures {

@@ -2,9 +2,10 @@
 ghost use Rattle.std.specs.Prelude.{◌≡◌};
 ghost use Rattle.log_store.specs.Store.{record_changed};
 
-use crate::place::{find_record, record_place};
+use crate::place::find_record;
 use forms::record::Record;
 use forms::terms::CounterId;
+use log_image::records::offset_of;
 use record_change::change::{Change, changed};
 
 // Writes a counter's record over itself, changed; nothing where the counter has none.
@@ -17,6 +18,6 @@ pub fn change_record(image: &mut [u8], id: CounterId, change: Change)
     let Some(index) = find_record(image, id) else {
         return;
     };
-    let at = record_place(index);
+    let at = offset_of(index);
     changed(Record::read(image, at), change).write(image, at);
 }

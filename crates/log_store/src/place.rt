@@ -1,9 +1,7 @@
-// Where a counter's record stands.
+// Which record is a counter's.
 ghost use Rattle.std.specs.Prelude.{◌≡◌, cond};
-ghost use Rattle.log_store.specs.Store.{has_record, index_in, record_place};
+ghost use Rattle.log_store.specs.Store.{has_record, index_in};
 
-use forms::image::Image;
-use forms::record::Record;
 use forms::terms::CounterId;
 use log_image::records::{index_of, is_record};
 
@@ -13,11 +11,4 @@ pub(crate) fn find_record(image: &[u8], id: CounterId) -> Option<u32>
 {
     let index = index_of(image, id);
     is_record(image, index).then_some(index)
-}
-
-// Where the record at an index stands.
-pub(crate) fn record_place(index: u32) -> usize
-    ensures { result ≡ record_place index }
-{
-    Image::RECORDS + Record::LEN * (index as usize)
 }

@@ -3,7 +3,7 @@ ghost use Rattle.std.specs.Prelude.{◌≡◌};
 ghost use Rattle.log_store.specs.Store.{counters_added, proofs_removed, record_added, record_removed};
 
 use crate::bytes::vacate;
-use crate::place::{find_record, record_place};
+use crate::place::find_record;
 use forms::confirmation::Confirmation;
 use forms::image::Image;
 use forms::number::put_u32;
@@ -11,7 +11,7 @@ use forms::record::Record;
 use forms::terms::CounterId;
 use log_image::header;
 use log_image::header::counter_count;
-use log_image::records::proofs;
+use log_image::records::{offset_of, proofs};
 
 // Stores the record of a counter as it is taken up behind the others, and answers with how many there are; with `None` where there is no place left, and
 // nothing is stored.
@@ -26,7 +26,7 @@ pub fn add_record(image: &mut [u8], confirmation: Confirmation) -> Option<u32>
     if Image::MAX_COUNTERS <= count {
         return None;
     }
-    Record::new(confirmation).write(image, record_place(count));
+    Record::new(confirmation).write(image, offset_of(count));
     put_u32(image, header::COUNTERS, count + 1);
     Some(count + 1)
 }
@@ -44,7 +44,7 @@ pub fn remove_record(image: &mut [u8], id: CounterId) -> Option<u32>
     let proofs = proofs(image, index);
     let left = counter_count(image) - 1;
     let behind = Record::LEN * ((left - index) as usize);
-    vacate(image, record_place(index), Record::LEN, behind);
+    vacate(image, offset_of(index), Record::LEN, behind);
     put_u32(image, header::COUNTERS, left);
     Some(proofs)
 }

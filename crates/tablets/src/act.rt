@@ -4,7 +4,7 @@ ghost use Rattle.tablets.specs.Act.{acted, renewed};
 
 use crate::tablet::{PROOF, RAISE, Tablet, nonce_for};
 use console::judge::judge;
-use console::step::raise_once;
+use console::step::{YES, raise_once};
 use forms::confirmation::Confirmation;
 use forms::nonce::Nonce;
 use forms::refusal::Refusal;
@@ -12,9 +12,6 @@ use forms::terms::CounterId;
 use host::confirm::confirm;
 use host::prove::prove;
 use validity::proof::{Kind, Proof};
-
-// The owner's verdict on every confirmation.
-const YES: u32 = 1;
 
 // Proves, has the desk judge, and on its yes confirms what it shows. Answers the value that the desk shows, or on its no the belief.
 fn renew(image: &mut [u8], nonce: Nonce, id: CounterId, belief: u32) -> u32
@@ -44,17 +41,16 @@ pub fn act(image: &mut [u8], round: u32, number: u32, tablet: Tablet) -> Tablet
 {
     let id = tablet.id;
     let belief = tablet.belief;
-    let answer = raise_once(image, nonce_for(RAISE, round, number), id, belief);
-    if answer.number == 0 {
-        return tablet.succeeded(answer.value);
+    match raise_once(image, nonce_for(RAISE, round, number), id, belief) {
+        Ok(clock) => tablet.succeeded(clock),
+        Err(Refusal::Stale) => {
+            let value = renew(image, nonce_for(PROOF, round, number), id, belief);
+            tablet.refused_stale().adopting(value)
+        }
+        Err(Refusal::LogFull) => {
+            renew(image, nonce_for(PROOF, round, number), id, belief);
+            tablet.refused_full()
+        }
+        Err(_) => tablet,
     }
-    if answer.number == Refusal::Stale.number() {
-        let value = renew(image, nonce_for(PROOF, round, number), id, belief);
-        return tablet.refused_stale().adopting(value);
-    }
-    if answer.number == Refusal::LogFull.number() {
-        renew(image, nonce_for(PROOF, round, number), id, belief);
-        return tablet.refused_full();
-    }
-    tablet
 }

@@ -1,11 +1,12 @@
 -- A proof that a line asks for, judged with every verdict yes; the entry of a reading looked for along the log; and a batch of one. Assumes nothing.
 use Rattle.std.specs.Prelude.{◌≡◌, refl, Bool, false, cond, ◌||◌, eqb, ltb, length, get_or, take, drop, replicate, ℕ, zero, suc, ◌+◌, ◌-◌, ◌*◌, ◌≤◌}
-use Rattle.std.specs.Prelude.{◌<◌, true, ◌&&◌, List, [], ◌∷◌, ◌++◌}
+use Rattle.std.specs.Prelude.{map, None, Some, Option, Ok, Err, ◌<◌, true, ◌&&◌, List, [], ◌∷◌, ◌++◌}
 use Rattle.std.proofs.Math.Path.{subst⁻¹}
 use Rattle.std.proofs.Common.{◌∙◌, length-drop, eq-eqb, ne_eqb, lt-ltb, le-ltb, sym, ap, ap₂, append-nil, add-one, arith}
 use Rattle.std.proofs.Math.Bool.{or-true, and-false}
 use Rattle.std.proofs.lemmas.Bool.{false≢true}
 use Rattle.std.proofs.lemmas.List.{length-replicate}
+use Rattle.std.proofs.Math.ListN.{get_or-map}
 use Rattle.forms.specs.Bytes.{overwrite}
 use Rattle.forms.specs.Laws.BytesLaws.{overwrite-fits}
 use Rattle.forms.specs.Entry.{Entry, reading_at, count_at, len_at, entry_at, entries_at, offset_at}
@@ -26,6 +27,13 @@ use Rattle.log_image.specs.Laws.LogLaws.{entries-first, entries_none}
 use Rattle.log_image.specs.Sound.{base, laid_out, after}
 use Rattle.log_image.specs.State.{State, decode, entry_count}
 use Rattle.host.proofs.Laws.DoneLaws.{settled-passed, value-given}
+use Rattle.host.specs.Host.{numbers_of}
+use Rattle.host.specs.Outcome.{batch_figures_of, figures_of, outcome_at, outcome_of_one, own_number, reading_of}
+use Rattle.host.specs.declared.answer.Batch.{Batch}
+use Rattle.host.proofs.Laws.OutcomeLaws.{refused-stays}
+use Rattle.host.proofs.Laws.SettledLaws.{some_number}
+use Rattle.forms.specs.Refusal.{refusal_number}
+use Rattle.forms.specs.declared.refusal.Refusal.{Refusal}
 use Rattle.host.specs.Host.{has_entry, request_nonce, held_of, proof_of, last_of, prove_refusal, last_refusal, counted, increment_figures}
 use Rattle.host.specs.Host.{increment_call, prove_call, last_call, prove_output, last_output}
 use Rattle.host.proofs.Laws.RefusalLaws.{prove-passed, last-passed}
@@ -279,16 +287,37 @@ request-stored q nonce =
     nothing [] none = refl
     nothing (x ∷ l) none = absurd (omega arith)
 
-module _ (s nonce : List ℕ) (id : CounterId) (before : ℕ) (requests : List ℕ) (call : BatchFigures) (stored : requests ≡ request_with nonce id before)
-    (answers : call ≡ increment_figures s requests (yes ∷ [])) where
+module _ (s nonce : List ℕ) (id : CounterId) (before : ℕ) (requests : List ℕ) (stored : requests ≡ request_with nonce id before) where
   -- what increment gives for the request
-  given : call ≡ increment_figures s (request_with nonce id before) (yes ∷ [])
-  given = answers ∙ ap (λ (l : List ℕ). increment_figures s l (yes ∷ [])) stored
+  given : (call : BatchFigures) → call ≡ increment_figures s requests (yes ∷ []) → call ≡ increment_figures s (request_with nonce id before) (yes ∷ [])
+  given call answers = answers ∙ ap (λ (l : List ℕ). increment_figures s l (yes ∷ [])) stored
 
-  -- the batch is refused as a whole, or the request has its own number
-  pub increment-line : (number : ℕ) → number ≡ cond (eqb call.number 0) (get_or call.numbers 0 0) call.number
-      → record { number = number; value = call.value } ≡ (raised_once s nonce id before).figures
-  increment-line number e = ap (λ (n : ℕ). record { number = n; value = call.value }) e ∙ ap single_figures given
+  -- the batch is refused as a whole
+  pub increment-refused : (refusal : Refusal) → batch_figures_of (Err refusal) ≡ increment_figures s requests (yes ∷ [])
+      → figures_of (Err refusal) ≡ (raised_once s nonce id before).figures
+  increment-refused refusal answers =
+      sym (ap (λ (b : Bool). record { number = cond b 0 (refusal_number refusal); value = 0 }) (some_number refusal)) ∙ ap single_figures (given _ answers)
+
+  -- or its request has its own number, with the value 0 where it is refused
+  pub increment-line : (batch : Batch) → length requests ≡ request_len → batch_figures_of (Ok batch) ≡ increment_figures s requests (yes ∷ [])
+      → figures_of (outcome_of_one batch) ≡ (raised_once s nonce id before).figures
+  increment-line batch one answers = go (get_or batch.refused 0 None) refl
+    where
+      number-of : own_number (get_or batch.refused 0 None) ≡ get_or (map own_number batch.refused) 0 0
+      number-of = sym (get_or-map own_number batch.refused 0 None)
+
+      line : single_figures (batch_figures_of (Ok batch)) ≡ (raised_once s nonce id before).figures
+      line = ap single_figures (given _ answers)
+
+      go : (refused : Option Refusal) → get_or batch.refused 0 None ≡ refused → figures_of (outcome_at refused batch.clock) ≡ (raised_once s nonce id before).figures
+      go None e = ap (λ (n : ℕ). record { number = n; value = reading_of batch.clock }) (sym (ap own_number e) ∙ number-of) ∙ line
+      go (Some refusal) e =
+          let number : refusal_number refusal ≡ get_or (map own_number batch.refused) 0 0 = sym (ap own_number e) ∙ number-of in
+          let some : get_or (numbers_of s requests (yes ∷ [])) 0 0 ≡ 0 → ⊥ =
+          λ none. false≢true (sym (some_number refusal) ∙ eq-eqb (refusal_number refusal) 0
+          (number ∙ ap (λ (f : BatchFigures). get_or f.numbers 0 0) answers ∙ none)) in
+          let value : reading_of batch.clock ≡ 0 = ap (λ (f : BatchFigures). f.value) answers ∙ refused-stays s requests yes one some in
+          (λ i. record { number = number i; value = sym value i }) ∙ line
 
   pub increment-image : (image : List ℕ) → image ≡ (increment_call s requests (yes ∷ [])).image → image ≡ (raised_once s nonce id before).image
   increment-image image e = e ∙ ap (λ (l : List ℕ). (increment_call s l (yes ∷ [])).image) stored

@@ -1,22 +1,23 @@
 -- What the code has of a batch half judged, request by request. Assumes nothing.
-use Rattle.std.specs.Prelude.{◌≡◌, refl, ℕ, zero, suc, ◌+◌, ◌-◌, ◌*◌, ◌≤◌, ◌<◌, Bool, true, false, cond, eqb, length, get_or, replicate, set, take, drop, List, [], ◌∷◌, ◌++◌, Result, Ok, Err}
+use Rattle.std.specs.Prelude.{◌≡◌, refl, ℕ, zero, suc, ◌+◌, ◌-◌, ◌*◌, ◌≤◌, ◌<◌, Bool, true, false, cond, eqb, length, get_or, map, replicate, set, take, drop, List, [], ◌∷◌, ◌++◌, Result, Ok, Err}
 use Rattle.std.proofs.Common.{sym, ap, ap₂, ◌∙◌, arith, length-append, take-append-drop, take_at, eq-eqb, ne_eqb, subst, append_assoc, append-nil}
 use mathlib.Core.List.{foldl, foldl-append}
-use Rattle.std.proofs.lemmas.List.{set_at}
+use Rattle.std.proofs.lemmas.List.{map-set, set_at}
 use Rattle.forms.specs.Bytes.{Bytes, overwrite, window}
 use Rattle.forms.specs.Laws.BytesLaws.{length-overwrite, length-window, window-part, overwrite-fits}
 use Rattle.forms.specs.Limits.{max_requests, request_len}
 use Rattle.forms.specs.Refusal.{outcome_number, refusal_number}
 use Rattle.forms.specs.declared.refusal.Refusal.{Refusal}
-use Rattle.std.specs.Result.{is_err}
+use Rattle.std.specs.Result.{is_err, result_err}
 use Rattle.std.proofs.lemmas.Bool.{false≢true}
 use Rattle.host.proofs.Laws.SettledLaws.{some_number}
 use Rattle.forms.specs.Request.{RequestsFit, none, one_more, request_at, request_bytes, requests_at, joined}
 use Rattle.forms.specs.Laws.RequestLaws.{joined-append, joined_length, request-fit, request-window, requests-bytes, requests-fit-append}
 use Rattle.forms.specs.declared.request.Request.{Request}
 use Rattle.log_image.specs.State.{State}
-use Rattle.host.specs.Laws.Batch.{JudgedAs, unjudged, with_number}
+use Rattle.host.specs.Laws.Batch.{JudgedAs, unjudged, with_outcome}
 use Rattle.host.specs.Host.{request_refusal, Asked, asked_from, Batch, none_judged, judge_next, judged_batch}
+use Rattle.host.specs.Outcome.{own_number}
 use Rattle.host.specs.declared.batch.Judged.{Judged}
 
 -- before the first request
@@ -31,9 +32,9 @@ stands-requests b done j s =
     ap₂ (λ (l : List ℕ) (n : ℕ). requests_at l 0 n) (sym (take-append-drop k j.passed) ∙ ap (λ (l : List ℕ). l ++ drop k j.passed) s.passed) s.count
     ∙ requests-bytes b.passed (drop k j.passed) s.fit
 
--- ---- a request's number kept
+-- ---- a request's outcome kept
 
--- its outcome is told by it
+-- an outcome is told by its number
 pub ok-number : (outcome : Result (Unit {0}) Refusal) → is_err outcome ≡ false → outcome_number outcome ≡ 0
 ok-number (Ok a) e = refl
 ok-number (Err refusal) e = absurd (false≢true (sym e))
@@ -42,38 +43,43 @@ pub err-number : (outcome : Result (Unit {0}) Refusal) → is_err outcome ≡ tr
 err-number (Ok a) e zero-number = false≢true e
 err-number (Err refusal) e zero-number = false≢true (sym (some_number refusal) ∙ eq-eqb (refusal_number refusal) 0 zero-number)
 
+-- its number is that of the refusal kept
+number-of : (outcome : Result (Unit {0}) Refusal) → own_number (result_err outcome) ≡ outcome_number outcome
+number-of (Ok a) = refl
+number-of (Err refusal) = refl
+
 -- where it is refused
-pub number-kept : (j : Judged) (requests : List ℕ) (i number : ℕ) → (number ≡ 0 → ⊥)
-    → record { numbers = set j.numbers i number; passed = j.passed; count = j.count } ≡ with_number j requests i number
-number-kept j requests i number some =
+pub outcome-kept : (j : Judged) (requests : List ℕ) (i : ℕ) (outcome : Result (Unit {0}) Refusal) → (outcome_number outcome ≡ 0 → ⊥)
+    → record { refused = set j.refused i (result_err outcome); passed = j.passed; count = j.count } ≡ with_outcome j requests i outcome
+outcome-kept j requests i outcome some =
     ap (λ (b : Bool).
     record {
-      numbers = set j.numbers i number;
+      refused = set j.refused i (result_err outcome);
       passed = cond b (overwrite j.passed (request_len * j.count) (window requests (request_len * i) request_len)) j.passed;
       count = cond b (j.count + 1) j.count;
     })
-    (sym (ne_eqb number 0 some))
+    (sym (ne_eqb (outcome_number outcome) 0 some))
 
 -- where it passed, and its bytes are stored
-pub number_passed : (j : Judged) (requests : List ℕ) (i number len : ℕ) (passed : List ℕ) → number ≡ 0 → len ≡ request_len → request_len * i + request_len ≤ length requests
+pub outcome_passed : (j : Judged) (requests : List ℕ) (i len : ℕ) (outcome : Result (Unit {0}) Refusal) (passed : List ℕ) → outcome_number outcome ≡ 0 → len ≡ request_len → request_len * i + request_len ≤ length requests
     → passed ≡ overwrite j.passed (request_len * j.count) (take len (drop (request_len * i) requests))
-    → record { numbers = set j.numbers i number; passed = passed; count = j.count + 1 } ≡ with_number j requests i number
-number_passed j requests i number len passed zero_number whole within stored =
+    → record { refused = set j.refused i (result_err outcome); passed = passed; count = j.count + 1 } ≡ with_outcome j requests i outcome
+outcome_passed j requests i len outcome passed zero_number whole within stored =
     let from = request_len * i in
     let part : take len (drop from requests) ≡ window requests from request_len =
     ap (λ (n : ℕ). take n (drop from requests)) whole ∙ sym (window-part requests from request_len within) in
     (λ k. record {
-      numbers = set j.numbers i number;
+      refused = set j.refused i (result_err outcome);
       passed = (stored ∙ ap (overwrite j.passed (request_len * j.count)) part) k;
       count = j.count + 1;
     })
     ∙ ap (λ (b : Bool).
     record {
-      numbers = set j.numbers i number;
+      refused = set j.refused i (result_err outcome);
       passed = cond b (overwrite j.passed (request_len * j.count) (window requests from request_len)) j.passed;
       count = cond b (j.count + 1) j.count;
     })
-    (sym (eq-eqb number 0 zero_number))
+    (sym (eq-eqb (outcome_number outcome) 0 zero_number))
 
 -- ---- one request more
 
@@ -110,12 +116,12 @@ request-put s requests qs at bytes fits room front =
 
 module _ (st : State) (requests : List ℕ) (bytes : Bytes requests) (verdict : ℕ) where
   -- it has the number of its own table
-  stands-next : (b : Batch) (done : ℕ) (j : Judged) (number : ℕ) → JudgedAs b done j → done < max_requests
-      → number ≡ request_refusal st b.passed (request_at requests (request_len * done)) verdict
-      → JudgedAs (judge_next st b (record { request = request_at requests (request_len * done); verdict = verdict })) (suc done) (with_number j requests done number)
+  stands-next : (b : Batch) (done : ℕ) (j : Judged) (outcome : Result (Unit {0}) Refusal) → JudgedAs b done j → done < max_requests
+      → outcome_number outcome ≡ request_refusal st b.passed (request_at requests (request_len * done)) verdict
+      → JudgedAs (judge_next st b (record { request = request_at requests (request_len * done); verdict = verdict })) (suc done) (with_outcome j requests done outcome)
   unfolding judge_next
-  stands-next b done j number s below e =
-      subst (λ (n : ℕ). JudgedAs next (suc done) (with_number j requests done n)) (sym e) (go (eqb given 0))
+  stands-next b done j outcome s below e =
+      subst (λ (n : ℕ). JudgedAs next (suc done) (kept (eqb n 0))) (sym e) (go (eqb given 0))
     where
       q : Request
       q = request_at requests (request_len * done)
@@ -126,8 +132,11 @@ module _ (st : State) (requests : List ℕ) (bytes : Bytes requests) (verdict : 
       next : Batch
       next = judge_next st b (record { request = q; verdict = verdict })
 
-      numbers : set j.numbers done given ≡ (b.numbers ++ (given ∷ [])) ++ replicate {A = ℕ} (max_requests - suc done) 0
-      numbers = ap (λ (l : List ℕ). set l done given) s.numbers ∙ number-set b.numbers done given s.judged below
+      numbers : map own_number (set j.refused done (result_err outcome)) ≡ (b.numbers ++ (given ∷ [])) ++ replicate {A = ℕ} (max_requests - suc done) 0
+      numbers =
+          map-set own_number j.refused done (result_err outcome)
+          ∙ ap₂ (λ (l : List ℕ) (n : ℕ). set l done n) s.numbers (number-of outcome ∙ e)
+          ∙ number-set b.numbers done given s.judged below
 
       judged : length (b.numbers ++ (given ∷ [])) ≡ suc done
       judged = omega (arith, length-append b.numbers (given ∷ []), s.judged)
@@ -138,6 +147,10 @@ module _ (st : State) (requests : List ℕ) (bytes : Bytes requests) (verdict : 
       put : List ℕ
       put = overwrite j.passed (request_len * j.count) (window requests (request_len * done) request_len)
 
+      kept : Bool → Judged
+      kept t =
+          record { refused = set j.refused done (result_err outcome); passed = cond t put j.passed; count = cond t (j.count + 1) j.count }
+
       behind : take (request_len * (j.count + 1)) put ≡ joined (b.passed ++ (q ∷ []))
       behind =
           ap (λ (n : ℕ). take (request_len * (n + 1)) (overwrite j.passed (request_len * n) (window requests (request_len * done) request_len))) s.count
@@ -145,7 +158,7 @@ module _ (st : State) (requests : List ℕ) (bytes : Bytes requests) (verdict : 
 
       go : (t : Bool)
           → JudgedAs (record { numbers = b.numbers ++ (given ∷ []); passed = cond t (b.passed ++ (q ∷ [])) b.passed }) (suc done)
-          (record { numbers = set j.numbers done given; passed = cond t put j.passed; count = cond t (j.count + 1) j.count })
+          (kept t)
       go true =
           record {
             judged = judged;
@@ -189,18 +202,18 @@ judged-snoc st requests verdicts n =
     ∙ foldl-append (judge_next st) none_judged (asked_from requests verdicts 0 n) (last ∷ [])
 
 -- and what the code has of it, with the number of its own table
-pub judged-next : (st : State) (requests verdicts : List ℕ) (i : ℕ) (j : Judged) (number : ℕ) → Bytes requests
+pub judged-next : (st : State) (requests verdicts : List ℕ) (i : ℕ) (j : Judged) (outcome : Result (Unit {0}) Refusal) → Bytes requests
     → JudgedAs (judged_batch st (asked_from requests verdicts 0 i)) i j → i < max_requests
-    → number ≡ request_refusal st (requests_at j.passed 0 j.count) (request_at requests (request_len * i)) (get_or verdicts i 0)
-    → JudgedAs (judged_batch st (asked_from requests verdicts 0 (i + 1))) (i + 1) (with_number j requests i number)
-judged-next st requests verdicts i j number bytes s below e =
+    → outcome_number outcome ≡ request_refusal st (requests_at j.passed 0 j.count) (request_at requests (request_len * i)) (get_or verdicts i 0)
+    → JudgedAs (judged_batch st (asked_from requests verdicts 0 (i + 1))) (i + 1) (with_outcome j requests i outcome)
+judged-next st requests verdicts i j outcome bytes s below e =
     let so_far = judged_batch st (asked_from requests verdicts 0 i) in
     let one : suc i ≡ i + 1 = omega arith in
     let verdict = get_or verdicts i 0 in
     let own = ap (λ (qs : List Request). request_refusal st qs (request_at requests (request_len * i)) verdict) (stands-requests so_far i j s) in
-    subst (λ (n : ℕ). JudgedAs (judged_batch st (asked_from requests verdicts 0 n)) n (with_number j requests i number)) one
-    (subst (λ (b : Batch). JudgedAs b (suc i) (with_number j requests i number)) (sym (judged-snoc st requests verdicts i))
-    (stands-next st requests bytes verdict so_far i j number s below (e ∙ own)))
+    subst (λ (n : ℕ). JudgedAs (judged_batch st (asked_from requests verdicts 0 n)) n (with_outcome j requests i outcome)) one
+    (subst (λ (b : Batch). JudgedAs b (suc i) (with_outcome j requests i outcome)) (sym (judged-snoc st requests verdicts i))
+    (stands-next st requests bytes verdict so_far i j outcome s below (e ∙ own)))
 
 -- before the first
 pub judged-none : (st : State) (requests verdicts : List ℕ) → JudgedAs (judged_batch st (asked_from requests verdicts 0 0)) 0 unjudged

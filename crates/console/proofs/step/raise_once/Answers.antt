@@ -1,13 +1,13 @@
 -- `console::step::raise_once` meets its contract: the request is stored, and handed on as a batch of one. Assumes nothing.
-use Rattle.std.proofs.Common.{◌≡◌, refl, sym, ap, ◌∙◌, Bool, cond, ℕ, Ok, Err, get_or, replicate}
+use Rattle.std.proofs.Common.{◌≡◌, ap, ◌∙◌, ℕ, Err, replicate, length, rules}
 use Rattle.forms.specs.Bytes.{overwrite}
 use Rattle.forms.specs.Limits.{request_len}
 use Rattle.forms.specs.Request.{request_bytes}
+use Rattle.forms.specs.Laws.RequestLaws.{request-length}
 use Rattle.forms.specs.declared.request.Request.{Request}
-use Rattle.host.proofs.Laws.SettledLaws.{some_number}
-use Rattle.host.specs.Outcome.{batch_figures_of}
+use Rattle.host.specs.Outcome.{figures_of}
 use Rattle.console.specs.Step.{request_with}
-use Rattle.console.specs.Laws.StepLaws.{request-stored, increment-line, increment-image}
+use Rattle.console.specs.Laws.StepLaws.{request-stored, increment-image, increment-line, increment-refused}
 use Rattle.console.proofs.step.raise_once.Goals as goal
 use Rattle.console.proofs.step.raise_once.Goals.{After-write}
 
@@ -17,26 +17,22 @@ stored c =
     c.write.ensures ∙ ap (λ (q : Request). overwrite (replicate {A = ℕ} request_len 0) 0 (request_bytes q)) c.new.ensures.value
     ∙ request-stored _ c.well_formed.1.0.1.0.1
 
-pub returns-in-Ok : goal.returns-in-Ok
-returns-in-Ok c =
-    let batch = stored (goal.at.returns-in-Ok c).After-write in
+pub returns-in_err-batch : goal.returns-in_err-batch
+returns-in_err-batch c =
+    let batch = stored (goal.at.returns-in_err-batch c).After-write in
     let a = c.args in
-    let call = batch_figures_of (Ok c.in-Ok.batch) in
-    let answers = sym (ap batch_figures_of c.in-Ok.is) ∙ c.increment-shown.ensures.value in
+    let passed_on : c.from_residual.result ≡ Err c.in_err-batch.field-0.0 = search rules in
     record {
-      value = increment-line a.image.now a.nonce a.id a.before _ call batch answers _ refl;
-      image_after = increment-image a.image.now a.nonce a.id a.before _ call batch answers _ c.increment-shown.ensures.image_after;
+      value = ap figures_of passed_on ∙ increment-refused a.image.now a.nonce a.id a.before _ batch c.in_err-batch.field-0.0 c.in_err-batch.ensures.value;
+      image_after = increment-image a.image.now a.nonce a.id a.before _ batch _ c.increment.ensures.image_after;
     }
 
-pub returns-in-Err : goal.returns-in-Err
-returns-in-Err c =
-    let batch = stored (goal.at.returns-in-Err c).After-write in
+pub returns : goal.returns
+returns c =
+    let batch = stored (goal.at.returns c).After-write in
     let a = c.args in
-    let call = batch_figures_of (Err c.in-Err.refusal) in
-    let answers = sym (ap batch_figures_of c.in-Err.is) ∙ c.increment-shown.ensures.value in
+    let one : length c.write.new.s ≡ request_len = ap length batch ∙ request-length _ c.well_formed.1.0.1.0.1 in
     record {
-      value = ap (λ (n : ℕ). record { number = n; value = 0 }) c.number.ensures
-          ∙ increment-line a.image.now a.nonce a.id a.before _ call batch answers _
-          (sym (ap (λ (b : Bool). cond b (get_or call.numbers 0 0) call.number) (some_number c.in-Err.refusal)));
-      image_after = increment-image a.image.now a.nonce a.id a.before _ call batch answers _ c.increment-shown.ensures.image_after;
+      value = ap figures_of c.of_one.ensures ∙ increment-line a.image.now a.nonce a.id a.before _ batch c.in_ok-batch.batch one c.in_ok-batch.ensures.value;
+      image_after = increment-image a.image.now a.nonce a.id a.before _ batch _ c.increment.ensures.image_after;
     }

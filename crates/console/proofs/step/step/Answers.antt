@@ -45,7 +45,7 @@ unfolding ran
 returns-in-Increment c =
     let is = c.in-Increment.is in
     record {
-      value = figures_known c.args.image.now is c.raise_once.ensures.value;
+      value = figures_known c.args.image.now is (c.into-in-Increment.ensures ∙ c.raise_once.ensures.value);
       image_after = image_known c.args.image.now is c.raise_once.ensures.image_after;
     }
 

@@ -2,7 +2,6 @@
 use Rattle.std.proofs.Common.{◌≡◌, sym, subst, ℕ, ◌+◌, ◌/◌, ◌≤◌, ◌<◌, div-add-mod', arith, length}
 use Rattle.forms.specs.Bytes.{Bytes}
 use Rattle.forms.specs.Limits.{max_requests, request_len}
-use Rattle.forms.specs.Refusal.{outcome_number}
 use Rattle.log_image.specs.State.{decode}
 use Rattle.host.specs.Laws.Batch.{JudgedAs}
 use Rattle.host.proofs.Laws.BatchLaws.{good-batch}
@@ -41,7 +40,7 @@ loop-i-preserved c =
     let i = c.loop-i.i in
     let bytes : Bytes a.requests.now = λ k. omega (arith, c.type_inv.requests k) in
     subst (λ (j : Judged). JudgedAs (judged_batch (decode a.sound.image.now) (asked_from a.requests.now a.verdicts.now 0 (i + 1))) (i + 1) j) (sym c.keep.ensures)
-    (judged-next (decode a.sound.image.now) a.requests.now a.verdicts.now i c.loop-i.judged (outcome_number c.request_refusal-outcome.result) bytes
+    (judged-next (decode a.sound.image.now) a.requests.now a.verdicts.now i c.loop-i.judged c.request_refusal-outcome.result bytes
     c.loop-i.invariant (below (goal.at.loop-i-preserved c).In-loop-i) c.request_refusal-outcome.ensures)
 
 pub returns : goal.returns
