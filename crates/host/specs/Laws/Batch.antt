@@ -23,7 +23,7 @@ with_outcome j requests i outcome =
       count = cond (eqb (outcome_number outcome) 0) (j.count + 1) j.count;
     }
 
--- what the code has of a batch when so many of its requests are judged: their numbers in their places and zeros behind them, and those that passed,
+-- what the code has of a batch when so many of its requests are judged: their refusals in their places and none behind them, and those that passed,
 -- joined, from the first byte on
 pub record JudgedAs (b : Batch) (done : ℕ) (j : Judged) : Type 0 where
   pub judged : length b.numbers ≡ done
