@@ -1,7 +1,7 @@
 // What the desk answers, and the five figures for it.
 ghost use Rattle.std.specs.Prelude.{◌≡◌};
 ghost use Rattle.validity.specs.Proof.{refusal_of};
-ghost use Rattle.desk_table.specs.Answer.{figures, told};
+ghost use Rattle.desk_table.specs.Answer.{figures, refuses, told};
 
 use forms::refusal::Refusal;
 use forms::running::Running;
@@ -53,8 +53,26 @@ impl From<ParseError> for Refused {
     }
 }
 
-// The five figures of an answer: of an accepted proof number and place are 0; of a refused one value, closing reading and openings are, so that
-// nothing in them passes for a value, and the place is where no entry is refused.
+impl Figures {
+    // The figures of a refusal by any check's number, at any place: value, closing reading and openings are 0, so that nothing in them passes for a
+    // value.
+    //
+    // Ruled out, among others: a refusal that shows openings; one that shows its place as a value.
+    pub fn refused(number: u32, place: u32) -> Figures
+        ensures { result ≡ figures (refuses number place) }
+    {
+        Figures {
+            number,
+            value: 0,
+            closing: 0,
+            place,
+            openings: 0,
+        }
+    }
+}
+
+// The five figures of an answer: of an accepted proof number and place are 0; a refused one has those of its refusal, with place 0 where no entry is
+// refused.
 //
 // Ruled out, among others: the same value whatever the entries; a refusal that shows openings.
 impl From<Answer> for Figures {
@@ -69,13 +87,7 @@ impl From<Answer> for Figures {
                 place: 0,
                 openings: accepted.running.openings,
             },
-            Err(refused) => Figures {
-                number: refused.refusal.number(),
-                value: 0,
-                closing: 0,
-                place: refused.place,
-                openings: 0,
-            },
+            Err(refused) => Figures::refused(refused.refusal.number(), refused.place),
         }
     }
 }

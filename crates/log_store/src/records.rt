@@ -13,22 +13,22 @@ use log_image::header;
 use log_image::header::counter_count;
 use log_image::records::{offset_of, proofs};
 
-// Stores the record of a counter as it is taken up behind the others, and answers with how many there are; with `None` where there is no place left, and
-// nothing is stored.
+// Stores the record of a counter as it is taken up behind the others, and answers with how many there are; where there is no place left nothing is
+// stored, and how many the header counts is the error.
 //
 // Ruled out, among others: one that writes over the first record; one that stores the record and leaves their count.
 #[tactic(auto, unfolding(crate::specs::Store::record_added))]
-pub fn add_record(image: &mut [u8], confirmation: Confirmation) -> Option<u32>
+pub fn add_record(image: &mut [u8], confirmation: Confirmation) -> Result<u32, u32>
     ensures value { result ≡ counters_added image.old }
     ensures image_after { image.new ≡ record_added image.old confirmation }
 {
     let count = counter_count(image);
     if Image::MAX_COUNTERS <= count {
-        return None;
+        return Err(count);
     }
     Record::new(confirmation).write(image, offset_of(count));
     put_u32(image, header::COUNTERS, count + 1);
-    Some(count + 1)
+    Ok(count + 1)
 }
 
 // Takes out a counter's record: the later ones move up to its place, the place that the last one leaves is cleared, and their count is stored.

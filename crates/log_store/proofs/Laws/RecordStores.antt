@@ -1,6 +1,6 @@
 -- The stores of one record into the image of a state: written over at its counter's index, whatever the change, and put behind the others. Assumes
 -- nothing.
-use Rattle.std.specs.Prelude.{◌≡◌, Bool, true, false, Option, Some, None, ltb, length, set, refl, ℕ, ◌+◌, ◌*◌, ◌<◌, min, cond, List, [], ◌∷◌}
+use Rattle.std.specs.Prelude.{◌≡◌, Bool, true, false, Result, Ok, Err, ltb, length, set, refl, ℕ, ◌+◌, ◌*◌, ◌<◌, min, cond, List, [], ◌∷◌}
 use Rattle.std.proofs.Common.{sym, subst, ◌∙◌, arith, lit<, lt-ltb, ap}
 use Rattle.forms.specs.Bytes.{Bytes, overwrite}
 use Rattle.forms.specs.Limits.{records_offset, record_len, max_counters}
@@ -101,8 +101,8 @@ module _ (st : State) (fits : StateFits st) where
         ∙ ap (λ (b : Bool). cond b (stores (length st.records)) s) (lt-ltb (length st.records) max_counters room)
         ∙ append-record st (taken c) room
 
-    pub added-counted : counters_added (encode st) ≡ Some (length st.records + 1)
+    pub added-counted : counters_added (encode st) ≡ Ok (length st.records + 1)
     added-counted =
-        let answer : Bool → ℕ → Option ℕ = λ b n. cond b (Some (cond b (n + 1) n)) None in
+        let answer : Bool → ℕ → Result ℕ ℕ = λ b n. cond b (Ok (cond b (n + 1) n)) (Err (cond b (n + 1) n)) in
         ap (λ (n : ℕ). answer (ltb n max_counters) n) (image-counters st fits)
         ∙ ap (λ (b : Bool). answer b (length st.records)) (lt-ltb (length st.records) max_counters room)

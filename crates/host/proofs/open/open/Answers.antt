@@ -1,5 +1,6 @@
 -- `host::open::open` meets its contract where it is not refused: the record is stored. Assumes nothing.
-use Rattle.std.proofs.Common.{◌≡◌, sym, ap, ◌∙◌, ◌+◌, Some, is_some, length, List, ℕ, rules}
+use Rattle.std.proofs.Common.{◌≡◌, sym, ap, ◌∙◌, ◌+◌, Ok, length, List, ℕ, rules}
+use Rattle.std.specs.Result.{is_ok, result_ok}
 use Rattle.std.proofs.lemmas.Option.{same_Some}
 use Rattle.forms.specs.Bytes.{Bytes}
 use Rattle.log_image.specs.State.{decode}
@@ -18,7 +19,7 @@ passes c =
     ap (λ (l : List ℕ). open_refusal (decode l) c.args.confirmation c.args.verdict) (sym c.in_ok-of.ensures.0) ∙ sym c.in_ok-open_refusal.ensures
 
 -- there is a place left, and the count with the record is answered
-counted : (c : After-add_record) → c.add_record.result ≡ Some (length (decode c.args.image.now).records + 1)
+counted : (c : After-add_record) → c.add_record.result ≡ Ok (length (decode c.args.image.now).records + 1)
 unfolding Bytes
 counted c =
     let a = c.args in
@@ -30,7 +31,7 @@ counted c =
     c.add_record.ensures.value ∙ ap counters_added (image-of s bytes is-sound) ∙ added-counted st (state-fits s bytes is-sound) room
 
 pub unwrap-requires : goal.unwrap-requires
-unwrap-requires c = ap is_some (counted (goal.at.unwrap-requires c).After-add_record)
+unwrap-requires c = ap is_ok (counted (goal.at.unwrap-requires c).After-add_record)
 
 pub returns : goal.returns
 unfolding Bytes
@@ -45,6 +46,6 @@ returns c =
     let fits = state-fits s bytes is-sound in
     let room = record-room s bytes is-sound (open-passed st a.confirmation a.verdict none).room in
     let all = ends-done s _ _ (opened st a.confirmation) c.unwrap.result c.add_record.new.image is-sound none
-    (same_Some _ _ (sym c.unwrap.ensures ∙ counted at))
+    (same_Some _ _ (ap result_ok (sym c.unwrap.ensures ∙ counted at)))
     (c.add_record.ensures.image_after ∙ ap (λ (l : List ℕ). record_added l a.confirmation) (image-of s bytes is-sound) ∙ added-stored st fits room a.confirmation) in
     record { value = all.0; image_after = all.1 }
