@@ -51,7 +51,7 @@ pub fn raise_once(
     let mut requests = [0u8; Request::LEN];
     Request::new(nonce, id, before).write(&mut requests, 0);
     let batch = increment(image, &requests, &SIGNED)?;
-    batch.of_one()
+    batch.outcome(0)
 }
 
 // What a command answers. The image is as the host leaves it; after a refusal, and for a line that is no command, it is as it was.

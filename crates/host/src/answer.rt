@@ -1,6 +1,6 @@
 // The figures by which a call's outcome goes to C.
-ghost use Rattle.std.specs.Prelude.{◌≡◌};
-ghost use Rattle.host.specs.Outcome.{batch_figures_of, figures_of, outcome_of_one, own_number, read_figures_of};
+ghost use Rattle.std.specs.Prelude.{◌≡◌, None, get_or};
+ghost use Rattle.host.specs.Outcome.{batch_figures_of, figures_of, outcome_at, outcome_of_one, own_number, read_figures_of};
 
 use forms::entry::Head;
 use forms::refusal::Refusal;
@@ -42,16 +42,25 @@ pub struct Batch {
 }
 
 impl Batch {
+    // Of the request at a place: why it was refused, or the clock's new reading.
+    //
+    // Ruled out, among others: the first request's outcome at every place; a reading where the request was refused.
+    pub fn outcome(self, place: usize) -> Result<u32, Refusal>
+        ensures { result ≡ outcome_at (get_or self.refused place None) self.clock }
+    {
+        match self.refused.get(place) {
+            Some(Some(refusal)) => Err(*refusal),
+            _ => Ok(self.clock.map_or(0, |clock| clock.0)),
+        }
+    }
+
     // Of a batch of one request: why it was refused, or the clock's new reading.
     //
     // Ruled out, among others: the next request's refusal; a reading where the request was refused.
     pub fn of_one(self) -> Result<u32, Refusal>
         ensures { result ≡ outcome_of_one self }
     {
-        match self.refused[0] {
-            Some(refusal) => Err(refusal),
-            None => Ok(self.clock.map_or(0, |clock| clock.0)),
-        }
+        self.outcome(0)
     }
 }
 

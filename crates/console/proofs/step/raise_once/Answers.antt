@@ -33,6 +33,6 @@ returns c =
     let a = c.args in
     let one : length c.write.new.s ≡ request_len = ap length batch ∙ request-length _ c.well_formed.1.0.1.0.1 in
     record {
-      value = ap figures_of c.of_one.ensures ∙ increment-line a.image.now a.nonce a.id a.before _ batch c.in_ok-batch.batch one c.in_ok-batch.ensures.value;
+      value = ap figures_of c.outcome.ensures ∙ increment-line a.image.now a.nonce a.id a.before _ batch c.in_ok-batch.batch one c.in_ok-batch.ensures.value;
       image_after = increment-image a.image.now a.nonce a.id a.before _ batch _ c.increment.ensures.image_after;
     }
