@@ -12,8 +12,9 @@ const PART: usize = 4096;
 
 const TEXT: usize = PART * MAX_ANSWER;
 
-// Reads an input to its end, in parts of at most the room given, from an image that is all zero, and writes what its lines answer, for which the
-// text has room. A read or a write that fails ends it with the error, with no further line answered.
+// Reads an input to its end, in parts of at most the room given, from an image that is all zero, and writes what its lines answer. No more is read at a
+// time than the text has room to answer; where it has none for a single byte, nothing is read. A read or a write that fails ends it with the error, with
+// no further line answered.
 pub fn run_session<T: TakeLine + Drop, R: Read, W: Write>(
     taker: T,
     part: &mut [u8],
@@ -23,11 +24,14 @@ pub fn run_session<T: TakeLine + Drop, R: Read, W: Write>(
 ) -> io::Result<()> {
     let mut image = [0u8; Image::LEN];
     let mut session = Session::new(taker);
+    let room = part.len().min(text.len() / T::MAX_TEXT);
     for _ in 0..u64::MAX {
-        let got = input.read(part)?;
+        let got = input.read(&mut part[..room])?;
         if got == 0 {
             break;
         }
+        // What was read is answered, and none of it passed over.
+        prove!(got <= text.len() / T::MAX_TEXT);
         let len = session.feed(&part[..got], &mut image, text);
         output.write_all(front(text, len))?;
     }

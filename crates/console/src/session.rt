@@ -89,7 +89,7 @@ pub trait TakeLine {
 }
 
 // An input so far: what stands of its last line, and what takes its lines.
-#[derive(Drop)]
+#[derive(Clone, Copy, Drop)]
 pub struct Session<T> {
     pub line: Line,
     pub taker: T,
