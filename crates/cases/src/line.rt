@@ -1,14 +1,13 @@
-// The lines of a table: their figures, and how they are printed. What does not fit whole into the room for a line is left out.
+// The lines of a table: their figures, and what is printed of them. What does not fit whole into the room for a line is left out.
 ghost use Rattle.std.specs.Prelude.{◌≡◌, ◌∷◌, []};
 ghost use Rattle.forms.specs.Bytes.{overwrite};
 ghost use Rattle.text.specs.Line.{stored_end};
 ghost use Rattle.text.specs.Text.{figures_in};
 ghost use Rattle.cases.specs.Cases.{asked_of};
 
-use std::io;
 use text::figures::read_figures;
 use text::line::put_words;
-use text::part::{between, find, front};
+use text::part::{between, find};
 
 // Stores the figures of a line from its first space up to its equals sign, behind which stands what is expected, and answers how many were begun.
 //
@@ -22,22 +21,23 @@ pub fn read_line(line: &[u8], figures: &mut [u32]) -> usize
     read_figures(between(line, space, end), figures)
 }
 
-// Writes the first bytes of a line, and a newline behind them. No contract can say what is written, only what then stands in the line.
+// Puts a newline behind the first bytes of a line, and answers where it then ends.
 //
 // Ruled out, among others: a newline in place of the last of those bytes.
-pub fn print_line(rt: &impl Print, line: &mut [u8], len: usize) -> io::Result<()>
-    ensures { line.new ≡ overwrite line.old len (10 ∷ []) }
+pub fn end_line(line: &mut [u8], len: usize) -> usize
+    ensures value { result ≡ stored_end line.old len (10 ∷ []) }
+    ensures line_after { line.new ≡ overwrite line.old len (10 ∷ []) }
 {
-    let end = put_words(line, len, b"\n");
-    rt.write_all(front(line, end))
+    put_words(line, len, b"\n")
 }
 
-// Writes a text as a line, whole or not at all. The same holds of its contract.
+// Puts a text into a line, whole or not at all, and a newline behind it, and answers where it then ends.
 //
 // Ruled out, among others: a writer that cuts the text to the room for a line.
-pub fn print_as_is(rt: &impl Print, line: &mut [u8], text: &[u8]) -> io::Result<()>
-    ensures { line.new ≡ overwrite (overwrite line.old 0 text.now) (stored_end line.old 0 text.now) (10 ∷ []) }
+pub fn put_as_is(line: &mut [u8], text: &[u8]) -> usize
+    ensures value { result ≡ stored_end (overwrite line.old 0 text.now) (stored_end line.old 0 text.now) (10 ∷ []) }
+    ensures line_after { line.new ≡ overwrite (overwrite line.old 0 text.now) (stored_end line.old 0 text.now) (10 ∷ []) }
 {
     let end = put_words(line, 0, text);
-    print_line(rt, line, end)
+    end_line(line, end)
 }

@@ -4,7 +4,7 @@ use crate::call::{Answer, Line, Word};
 use crate::crc::{crc32, put_hex};
 use crate::judge;
 use cases::call::Call;
-use cases::line::print_line;
+use cases::line::end_line;
 use std::io;
 use text::line::{put_filled, put_words};
 use text::part::{between, find, front, least};
@@ -68,7 +68,8 @@ fn print_answer(
     end = put_figures(&mut line, end, shown);
     end = put_crc(&mut line, end, b" image ", image);
     end = put_proof(&mut line, end, asked, shown.value(), proof);
-    print_line(rt, &mut line, end)
+    end = end_line(&mut line, end);
+    rt.write_all(front(&line, end))
 }
 
 // The call gets the first bytes of the image. `host_cases` has the like; it prints checksums from before the call too.

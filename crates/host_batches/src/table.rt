@@ -4,10 +4,11 @@
 // it back; and `give length`, from which on so many of its bytes are lent.
 use crate::answer;
 use crate::call::{Line, Word};
-use cases::line::print_as_is;
+use cases::line::put_as_is;
 use cases::table::Table;
 use forms::image::Image;
 use std::io;
+use text::part::front;
 
 fn changed(table: &mut Table<{ Image::LEN }>, line: Line) {
     let [at, number, ..] = line.figures;
@@ -26,7 +27,9 @@ pub(crate) fn row(
     if text.contains(&b'=') {
         return answer::print(rt, text, table.lent, &mut table.image);
     }
-    print_as_is(rt, &mut [0u8; answer::LINE_ROOM], text)?;
+    let mut line = [0u8; answer::LINE_ROOM];
+    let end = put_as_is(&mut line, text);
+    rt.write_all(front(&line, end))?;
     changed(table, Line::of(text));
     Ok(())
 }

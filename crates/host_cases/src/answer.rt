@@ -2,11 +2,11 @@
 // the same of the output where the call has one.
 use crate::IMAGE_ROOM;
 use crate::call::{Answer, Line, Word};
-use cases::line::print_line;
+use cases::line::end_line;
 use std::io;
 use text::checksum::checksum;
 use text::line::{put_filled, put_words};
-use text::part::{between, find, least};
+use text::part::{between, find, front, least};
 use validity::proof::Proof;
 
 // What every byte of the output is before a call.
@@ -68,7 +68,8 @@ fn print_answer(
     let mut end = put_words(&mut line, 0, between(text, 0, find(text, 0, b'=')));
     end = put_figures(&mut line, end, shown);
     end = put_sums(&mut line, end, before, now);
-    print_line(rt, &mut line, end)
+    end = end_line(&mut line, end);
+    rt.write_all(front(&line, end))
 }
 
 // The call gets the first bytes of the image's buffer.

@@ -5,10 +5,11 @@
 // of the image's buffer are lent.
 use crate::call::{Line, Word};
 use crate::{IMAGE_ROOM, answer};
-use cases::line::print_as_is;
+use cases::line::put_as_is;
 use cases::table::Table;
 use forms::bytes::put;
 use std::io;
+use text::part::front;
 
 fn changed(table: &mut Table<IMAGE_ROOM>, line: Line) {
     let [at, number, ..] = line.figures;
@@ -24,7 +25,9 @@ pub(crate) fn row(rt: &impl Print, table: &mut Table<IMAGE_ROOM>, text: &[u8]) -
     match line.word {
         Word::Each => answer::print_each(rt, table.lent, &mut table.image),
         Word::Change(_) | Word::Byte | Word::Other => {
-            print_as_is(rt, &mut [0u8; answer::LINE_ROOM], text)?;
+            let mut line_as_is = [0u8; answer::LINE_ROOM];
+            let end = put_as_is(&mut line_as_is, text);
+            rt.write_all(front(&line_as_is, end))?;
             changed(table, line);
             Ok(())
         }
